@@ -1,0 +1,120 @@
+-- The plain state as record and stores: encoding, decoding, and the session test without the window's part.
+-- T is the length of the text store, Q that of a quarter of the side store.
+use Rattle.editor.specs.Words.{List, [], _++_, Bool, true, false, _&&_, _||_, cond, ℕ, _*_, eqb, leb, length, Mode, Main, Quoted, Key, Sizes, Lengths}
+use Rattle.gap.specs.Sequence.{part}
+use Rattle.gap.specs.Doc.{Doc}
+use Rattle.gap.specs.Layout.{gapped, paired, ungap, unpair, soundGap, soundPair}
+use Rattle.editor.specs.Plain.{Side, Plain, Did, SIZE, SESSION, Outcome, refused, done}
+use Rattle.editor.specs.Keys.{key}
+
+-- The stores that the editor works on; the screen is the window's.
+pub record Stores : Type 0 where
+  pub text : List ℕ
+  pub recall : List ℕ
+  pub side : List ℕ
+
+-- 01, stores: a quarter has 256 bytes.
+unfoldable pub quarter : ℕ
+quarter = 256
+
+-- 01, table of stores: text has 1 to 65,536 bytes, recall the same, side four quarters.
+unfoldable pub sized : ℕ → Stores → Bool
+sized Q b =
+    (leb 1 (length (b .text)) && leb (length (b .text)) 65536)
+    && (eqb (length (b .recall)) (length (b .text)) && eqb (length (b .side)) (4 * Q))
+
+-- Quarter i of the side store: quotation 0, its recall text 1, pattern 2, replacement 3.
+abbrev pub quarterOf : ℕ → ℕ → List ℕ → List ℕ
+quarterOf Q i side = part (i * Q) Q side
+
+-- A pattern is a pair with no right text.
+abbrev pub alone : List ℕ → Doc
+alone pattern = record { l = pattern; r = [] }
+
+-- Decoding: the plain state that record and stores hold.
+unfoldable pub plainOf : ℕ → Lengths → Stores → Plain
+plainOf Q n b =
+    record {
+      main = record { text = ungap (n .main .l) (n .main .r) (b .text); recall = unpair (n .main .rl) (n .main .rr) (b .recall) };
+      quoted =
+          record {
+            text = ungap (n .quoted .l) (n .quoted .r) (quarterOf Q 0 (b .side));
+            recall = unpair (n .quoted .rl) (n .quoted .rr) (quarterOf Q 1 (b .side));
+          };
+      pattern = unpair (n .pl) 0 (quarterOf Q 2 (b .side)) .l;
+      replacement = unpair (n .xl) (n .xr) (quarterOf Q 3 (b .side));
+      mode = n .mode;
+    }
+
+-- Encoding: the lengths, and the bytes. The same plain state at the same T and Q always has the same bytes.
+abbrev pub sizesOf : Side → Sizes
+sizesOf s =
+    record { l = length (s .text .l); r = length (s .text .r); rl = length (s .recall .l); rr = length (s .recall .r) }
+
+unfoldable pub lengthsOf : Plain → Lengths
+lengthsOf p =
+    record {
+      main = sizesOf (p .main);
+      quoted = sizesOf (p .quoted);
+      xl = length (p .replacement .l);
+      xr = length (p .replacement .r);
+      pl = length (p .pattern);
+      mode = p .mode;
+    }
+
+unfoldable pub storesOf : ℕ → ℕ → Plain → Stores
+storesOf T Q p =
+    record {
+      text = gapped T (p .main .text);
+      recall = paired T (p .main .recall);
+      side =
+          gapped Q (p .quoted .text)
+          ++ (paired Q (p .quoted .recall) ++ (paired Q (alone (p .pattern)) ++ paired Q (p .replacement)));
+    }
+
+-- 01, session: of a recall pair at least one half is empty.
+abbrev pub oneHalf : Sizes → Bool
+oneHalf n = eqb (n .rl) 0 || eqb (n .rr) 0
+
+-- 01, session: in mode MAIN the quotation and its recall text are empty.
+abbrev pub unquoted : Mode → Sizes → Bool
+unquoted Main n = (eqb (n .l) 0 && eqb (n .r) 0) && (eqb (n .rl) 0 && eqb (n .rr) 0)
+unquoted Quoted n = true
+
+-- 01, session, without the cursor's visibility. The replacement may have two halves.
+unfoldable pub editorOk : ℕ → Lengths → Stores → Bool
+editorOk Q n b =
+    (soundGap (n .main .l) (n .main .r) (b .text) && soundPair (n .main .rl) (n .main .rr) (b .recall))
+    && ((soundGap (n .quoted .l) (n .quoted .r) (quarterOf Q 0 (b .side)) && soundPair (n .quoted .rl) (n .quoted .rr) (quarterOf Q 1 (b .side)))
+    && ((soundPair (n .pl) 0 (quarterOf Q 2 (b .side)) && soundPair (n .xl) (n .xr) (quarterOf Q 3 (b .side)))
+    && ((oneHalf (n .main) && oneHalf (n .quoted)) && unquoted (n .mode) (n .quoted))))
+
+-- What the editor layer's key call gives: 0 or a refusal's number, steps, bell, the record's lengths and the stores.
+pub record Edited : Type 0 where
+  pub code : ℕ
+  pub steps : ℕ
+  pub bell : Bool
+  pub lengths : Lengths
+  pub stores : Stores
+
+-- 01, refusals: a refused key leaves record and stores as they were, with steps and bell 0.
+abbrev pub turnedDown : Lengths → Stores → ℕ → Edited
+turnedDown n b code = record { code = code; steps = 0; bell = false; lengths = n; stores = b }
+
+abbrev pub finished : ℕ → Lengths → Stores → Outcome → Edited
+finished Q n b (refused code) = turnedDown n b code
+finished Q n b (done did) =
+    record {
+      code = 0;
+      steps = did .steps;
+      bell = did .bell;
+      lengths = lengthsOf (did .state);
+      stores = storesOf (length (b .text)) Q (did .state);
+    }
+
+-- The key call of this layer: SIZE, SESSION, then what the plain editor says of the plain state held.
+unfoldable pub edited : ℕ → Lengths → Key → Stores → Edited
+edited Q n k b =
+    cond (sized Q b)
+    (cond (editorOk Q n b) (finished Q n b (key (length (b .text)) Q k (plainOf Q n b))) (turnedDown n b SESSION))
+    (turnedDown n b SIZE)

@@ -1,0 +1,7 @@
+-- The definitions of the window layer and of the core, in reading order. docs/RULES.md has the same rules in prose.
+pub mod Words
+pub mod Window
+pub mod Rows
+pub mod Core
+pub mod Terminal
+pub mod Table
