@@ -1,0 +1,4 @@
+pub mod Layouts
+pub mod Sessions
+pub mod Refusals
+pub mod Recall

@@ -1,0 +1,1 @@
+-- Laws of newlines and lines.

@@ -1,0 +1,4 @@
+pub mod Distance
+pub mod DocProperties
+pub mod PlaceTheorem
+pub mod Flatten
