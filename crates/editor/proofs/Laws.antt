@@ -1,1 +1,4 @@
 pub mod Sound
+pub mod Outcomes
+pub mod Sides
+pub mod States

@@ -1,0 +1,156 @@
+-- Laws of the plain state: what its parts do keeps it a session's, where the finished texts fit.
+use mathlib.Core.Path.{_≡_, refl, ap}
+use mathlib.Core.Bool.{Bool, true, false, cond}
+use mathlib.Core.List.{List, []}
+use Prim.Native.Nat.{ℕ, _≤_}
+use native.Mathlib.Omega.{arith}
+use borrow.Author.Tests.{leb-true}
+use lib.Dec.{leb}
+use lib.ListN.{length}
+use Rattle.gap.specs.Doc.{Doc, content}
+use Rattle.gap.specs.Nearest.{distance}
+use Rattle.gap.specs.Layout.{allowed}
+use Rattle.gap.proofs.Laws.Tests.{and-left, and-right}
+use Rattle.gap.proofs.Laws.Sequence.{every-left}
+use Rattle.gap.proofs.Laws.Layout.{Holdable}
+use Rattle.editor.specs.Words.{Direction, Move, Mode, Main, Quoted}
+use Rattle.editor.specs.Plain.{Side, emptySide, Plain, Did, quiet, rang}
+use Rattle.editor.specs.Bytes.{alone, sizesOf, unquoted}
+use Rattle.editor.specs.Keys.{sideOf, withSide, onSide, withPattern, matches, searched, withReplacement, exchanged, substituted, fits}
+use Rattle.editor.proofs.Laws.Sound.{SoundPlain}
+use Rattle.editor.proofs.Laws.Sides.{SoundSide, empty-holdable, content-fits, splice-holdable, left-holdable, right-holdable}
+use Rattle.editor.proofs.Laws.Sides.{begins-fits, carried-sound}
+
+-- How long the text of the mode's side may be.
+abbrev pub limit : ℕ → ℕ → Mode → ℕ
+limit T Q Main = T
+limit T Q Quoted = Q
+
+pub side-with : (mode : Mode) (s : Side) (p : Plain) → sideOf mode (withSide mode s p) ≡ s
+side-with Main s p = refl
+side-with Quoted s p = refl
+
+-- Both sides of a sound state are sound.
+pub side-sound : (T Q : ℕ) (mode : Mode) (p : Plain) → SoundPlain T Q p → SoundSide (limit T Q mode) (sideOf mode p)
+side-sound T Q Main p sound = record { text = sound .text; recall = sound .recall; half = sound .half }
+side-sound T Q Quoted p sound = record { text = sound .quotation; recall = sound .itsRecall; half = sound .itsHalf }
+
+-- A sound state with another sound side is sound. There is a quotation only in QUOTED.
+pub with-main-sound : (T Q : ℕ) (s : Side) (p : Plain) → SoundPlain T Q p → SoundSide T s → SoundPlain T Q (withSide Main s p)
+with-main-sound T Q s p sound side =
+    record {
+      text = side .text;
+      recall = side .recall;
+      quotation = sound .quotation;
+      itsRecall = sound .itsRecall;
+      pattern = sound .pattern;
+      replacement = sound .replacement;
+      half = side .half;
+      itsHalf = sound .itsHalf;
+      mode = sound .mode;
+    }
+
+pub with-side-sound : (T Q : ℕ) (mode : Mode) (s : Side) (p : Plain) → p .mode ≡ mode → SoundPlain T Q p
+    → SoundSide (limit T Q mode) s → SoundPlain T Q (withSide mode s p)
+with-side-sound T Q Main s p e sound side = with-main-sound T Q s p sound side
+with-side-sound T Q Quoted s p e sound side =
+    record {
+      text = sound .text;
+      recall = sound .recall;
+      quotation = side .text;
+      itsRecall = side .recall;
+      pattern = sound .pattern;
+      replacement = sound .replacement;
+      half = sound .half;
+      itsHalf = side .half;
+      mode = ap (λ m. unquoted m (sizesOf s)) e;
+    }
+
+-- What fits, fits in both texts.
+pub fits-side : (T Q : ℕ) (mode : Mode) (p : Plain) → fits T Q p ≡ true → length (content (sideOf mode p .text)) ≤ limit T Q mode
+unfolding fits
+fits-side T Q Main p e = leb-true _ _ (and-left _ _ e)
+fits-side T Q Quoted p e = leb-true _ _ (and-right (leb (length (content (p .main .text))) T) _ e)
+
+-- An edit of the mode's side: it is enough that it keeps that side where the finished text fits.
+pub on-side-sound : (T Q : ℕ) (edit : Side → Did Side) (p : Plain) → SoundPlain T Q p → fits T Q (onSide edit p .state) ≡ true
+    → ((size : ℕ) (s : Side) → SoundSide size s → length (content (edit s .state .text)) ≤ size → SoundSide size (edit s .state))
+    → SoundPlain T Q (onSide edit p .state)
+unfolding onSide
+on-side-sound T Q edit p sound room keeps = go (p .mode) refl room
+  where
+    go : (mode : Mode) → p .mode ≡ mode → fits T Q (withSide mode (edit (sideOf mode p) .state) p) ≡ true
+        → SoundPlain T Q (withSide mode (edit (sideOf mode p) .state) p)
+    go mode e room =
+        let side = edit (sideOf mode p) .state in
+        with-side-sound T Q mode side p e sound
+        (keeps (limit T Q mode) (sideOf mode p) (side-sound T Q mode p sound)
+        (rw (side-with mode side p) at (fits-side T Q mode (withSide mode side p) room)))
+
+-- A sound state without its quotation, with another pattern, replacement and mode.
+pub cleared-sound : (T Q : ℕ) (pattern : List ℕ) (replacement : Doc) (mode : Mode) (p : Plain) → SoundPlain T Q p
+    → Holdable Q (alone pattern) → Holdable Q replacement
+    → SoundPlain T Q (record { main = p .main; quoted = emptySide; pattern = pattern; replacement = replacement; mode = mode })
+cleared-sound T Q pattern replacement mode p sound pattern-held replacement-held =
+    record {
+      text = sound .text;
+      recall = sound .recall;
+      quotation = empty-holdable Q;
+      itsRecall = empty-holdable Q;
+      pattern = pattern-held;
+      replacement = replacement-held;
+      half = sound .half;
+      itsHalf = refl;
+      mode = no-quotation mode;
+    }
+  where
+    no-quotation : (mode : Mode) → unquoted mode (sizesOf emptySide) ≡ true
+    no-quotation Main = refl
+    no-quotation Quoted = refl
+
+pub with-pattern-sound : (T Q : ℕ) (mode : Mode) (p : Plain) → SoundPlain T Q p → SoundPlain T Q (withPattern mode p)
+unfolding withPattern
+with-pattern-sound T Q Main p sound = sound
+with-pattern-sound T Q Quoted p sound =
+    cleared-sound T Q (content (p .quoted .text)) (p .replacement) Main p sound
+    (left-holdable Q (content (p .quoted .text)) (content-fits Q (p .quoted .text) (sound .quotation)) (sound .quotation .bytes))
+    (sound .replacement)
+
+pub searched-sound : (T Q : ℕ) (way : Direction) (p : Plain) → SoundPlain T Q p → SoundPlain T Q (searched way p .state)
+unfolding searched
+searched-sound T Q way p sound =
+    with-main-sound T Q _ p sound
+    (carried-sound T (p .main) (side-sound T Q Main p sound) Move way (distance way (matches (p .pattern)) (p .main .text)))
+
+pub with-replacement-sound : (T Q : ℕ) (mode : Mode) (p : Plain) → SoundPlain T Q p → SoundPlain T Q (withReplacement mode p)
+unfolding withReplacement
+with-replacement-sound T Q Main p sound = sound
+with-replacement-sound T Q Quoted p sound =
+    cleared-sound T Q (p .pattern) (p .quoted .text) Main p sound (sound .pattern) (sound .quotation)
+
+-- The pattern that REPLACE gives to the recall text fits there, for it stood in the document.
+exchanged-sound : (T Q : ℕ) (p : Plain) → SoundPlain T Q p → matches (p .pattern) (p .main .text) ≡ true
+    → length (content (exchanged p .text)) ≤ T → SoundSide T (exchanged p)
+unfolding exchanged
+exchanged-sound T Q p sound match fit =
+    record {
+      text = splice-holdable T 0 (length (p .pattern)) (p .replacement) (p .main .text) (sound .replacement .bytes) (sound .text) fit;
+      recall =
+          right-holdable T (p .pattern) (omega (arith, begins-fits (p .pattern) (p .main .text .r) match, sound .text .fits))
+          (every-left allowed (p .pattern) [] (sound .pattern .bytes));
+      half = refl;
+    }
+
+pub substituted-sound : (T Q : ℕ) (p : Plain) → SoundPlain T Q p → fits T Q (substituted p .state) ≡ true
+    → SoundPlain T Q (substituted p .state)
+unfolding substituted
+substituted-sound T Q p sound room = go (matches (p .pattern) (p .main .text)) refl room
+  where
+    answer : Bool → Did Plain
+    answer match = cond match (quiet (withSide Main (exchanged p) p)) (rang p)
+
+    go : (match : Bool) → matches (p .pattern) (p .main .text) ≡ match → fits T Q (answer match .state) ≡ true
+        → SoundPlain T Q (answer match .state)
+    go true match room =
+        with-main-sound T Q (exchanged p) p sound (exchanged-sound T Q p sound match (fits-side T Q Main _ room))
+    go false match room = sound
