@@ -13,10 +13,12 @@ use Rattle.gap.specs.Layout.{allowed}
 use Rattle.gap.proofs.Laws.Tests.{and-left, and-right}
 use Rattle.gap.proofs.Laws.Sequence.{every-left}
 use Rattle.gap.proofs.Laws.Layout.{Holdable}
-use Rattle.editor.specs.Words.{Direction, Move, Mode, Main, Quoted}
+use Rattle.editor.specs.Words.{Direction, Action, Move, Place, Mode, Main, Quoted}
+use Rattle.editor.specs.Places.{isAt}
 use Rattle.editor.specs.Plain.{Side, emptySide, Plain, Did, quiet, rang}
 use Rattle.editor.specs.Bytes.{alone, sizesOf, unquoted}
-use Rattle.editor.specs.Keys.{sideOf, withSide, onSide, withPattern, matches, searched, withReplacement, exchanged, substituted, fits}
+use Rattle.editor.specs.Keys.{function, sideOf, withSide, onSide, otherMode, quoted, withPattern, matches, searched, found}
+use Rattle.editor.specs.Keys.{withReplacement, exchanged, substituted, fits}
 use Rattle.editor.proofs.Laws.Sound.{SoundPlain}
 use Rattle.editor.proofs.Laws.Sides.{SoundSide, empty-holdable, content-fits, splice-holdable, left-holdable, right-holdable}
 use Rattle.editor.proofs.Laws.Sides.{begins-fits, carried-sound}
@@ -36,7 +38,7 @@ side-sound T Q Main p sound = record { text = sound .text; recall = sound .recal
 side-sound T Q Quoted p sound = record { text = sound .quotation; recall = sound .itsRecall; half = sound .itsHalf }
 
 -- A sound state with another sound side is sound. There is a quotation only in QUOTED.
-pub with-main-sound : (T Q : ℕ) (s : Side) (p : Plain) → SoundPlain T Q p → SoundSide T s → SoundPlain T Q (withSide Main s p)
+with-main-sound : (T Q : ℕ) (s : Side) (p : Plain) → SoundPlain T Q p → SoundSide T s → SoundPlain T Q (withSide Main s p)
 with-main-sound T Q s p sound side =
     record {
       text = side .text;
@@ -50,7 +52,7 @@ with-main-sound T Q s p sound side =
       mode = sound .mode;
     }
 
-pub with-side-sound : (T Q : ℕ) (mode : Mode) (s : Side) (p : Plain) → p .mode ≡ mode → SoundPlain T Q p
+with-side-sound : (T Q : ℕ) (mode : Mode) (s : Side) (p : Plain) → p .mode ≡ mode → SoundPlain T Q p
     → SoundSide (limit T Q mode) s → SoundPlain T Q (withSide mode s p)
 with-side-sound T Q Main s p e sound side = with-main-sound T Q s p sound side
 with-side-sound T Q Quoted s p e sound side =
@@ -66,29 +68,36 @@ with-side-sound T Q Quoted s p e sound side =
       mode = ap (λ m. unquoted m (sizesOf s)) e;
     }
 
--- What fits, fits in both texts.
+-- FULL's test passes exactly when both texts keep to their limits.
 pub fits-side : (T Q : ℕ) (mode : Mode) (p : Plain) → fits T Q p ≡ true → length (content (sideOf mode p .text)) ≤ limit T Q mode
 unfolding fits
 fits-side T Q Main p e = leb-true _ _ (and-left _ _ e)
 fits-side T Q Quoted p e = leb-true _ _ (and-right (leb (length (content (p .main .text))) T) _ e)
 
--- An edit of the mode's side: it is enough that it keeps that side where the finished text fits.
-pub on-side-sound : (T Q : ℕ) (edit : Side → Did Side) (p : Plain) → SoundPlain T Q p → fits T Q (onSide edit p .state) ≡ true
-    → ((size : ℕ) (s : Side) → SoundSide size s → length (content (edit s .state .text)) ≤ size → SoundSide size (edit s .state))
-    → SoundPlain T Q (onSide edit p .state)
+-- An edit of the mode's side: it is enough that the edit keeps that side.
+pub on-side-sound : (T Q : ℕ) (edit : Side → Did Side) (p : Plain) → SoundPlain T Q p
+    → SoundSide (limit T Q (p .mode)) (edit (sideOf (p .mode) p) .state) → SoundPlain T Q (onSide edit p .state)
 unfolding onSide
-on-side-sound T Q edit p sound room keeps = go (p .mode) refl room
-  where
-    go : (mode : Mode) → p .mode ≡ mode → fits T Q (withSide mode (edit (sideOf mode p) .state) p) ≡ true
-        → SoundPlain T Q (withSide mode (edit (sideOf mode p) .state) p)
-    go mode e room =
-        let side = edit (sideOf mode p) .state in
-        with-side-sound T Q mode side p e sound
-        (keeps (limit T Q mode) (sideOf mode p) (side-sound T Q mode p sound)
-        (rw (side-with mode side p) at (fits-side T Q mode (withSide mode side p) room)))
+on-side-sound T Q edit p sound side = with-side-sound T Q (p .mode) (edit (sideOf (p .mode) p) .state) p refl sound side
+
+pub on-side-fits : (T Q : ℕ) (edit : Side → Did Side) (p : Plain) → fits T Q (onSide edit p .state) ≡ true
+    → length (content (edit (sideOf (p .mode) p) .state .text)) ≤ limit T Q (p .mode)
+unfolding onSide
+on-side-fits T Q edit p room =
+    let side = edit (sideOf (p .mode) p) .state in
+    rw (side-with (p .mode) side p) at (fits-side T Q (p .mode) (withSide (p .mode) side p) room)
+
+-- Moves and deletions keep a session, and so do searches: there is always room.
+pub function-sound : (T Q : ℕ) (action : Action) (way : Direction) (place : Place) (p : Plain) → SoundPlain T Q p
+    → SoundPlain T Q (onSide (function action way place) p .state)
+unfolding function
+function-sound T Q action way place p sound =
+    let s = sideOf (p .mode) p in
+    on-side-sound T Q (function action way place) p sound
+    (carried-sound (limit T Q (p .mode)) s (side-sound T Q (p .mode) p sound) action way (distance way (isAt place way) (s .text)))
 
 -- A sound state without its quotation, with another pattern, replacement and mode.
-pub cleared-sound : (T Q : ℕ) (pattern : List ℕ) (replacement : Doc) (mode : Mode) (p : Plain) → SoundPlain T Q p
+cleared-sound : (T Q : ℕ) (pattern : List ℕ) (replacement : Doc) (mode : Mode) (p : Plain) → SoundPlain T Q p
     → Holdable Q (alone pattern) → Holdable Q replacement
     → SoundPlain T Q (record { main = p .main; quoted = emptySide; pattern = pattern; replacement = replacement; mode = mode })
 cleared-sound T Q pattern replacement mode p sound pattern-held replacement-held =
@@ -108,7 +117,12 @@ cleared-sound T Q pattern replacement mode p sound pattern-held replacement-held
     no-quotation Main = refl
     no-quotation Quoted = refl
 
-pub with-pattern-sound : (T Q : ℕ) (mode : Mode) (p : Plain) → SoundPlain T Q p → SoundPlain T Q (withPattern mode p)
+pub quoted-sound : (T Q : ℕ) (p : Plain) → SoundPlain T Q p → SoundPlain T Q (quoted p .state)
+unfolding quoted
+quoted-sound T Q p sound =
+    cleared-sound T Q (p .pattern) (p .replacement) (otherMode (p .mode)) p sound (sound .pattern) (sound .replacement)
+
+with-pattern-sound : (T Q : ℕ) (mode : Mode) (p : Plain) → SoundPlain T Q p → SoundPlain T Q (withPattern mode p)
 unfolding withPattern
 with-pattern-sound T Q Main p sound = sound
 with-pattern-sound T Q Quoted p sound =
@@ -116,11 +130,15 @@ with-pattern-sound T Q Quoted p sound =
     (left-holdable Q (content (p .quoted .text)) (content-fits Q (p .quoted .text) (sound .quotation)) (sound .quotation .bytes))
     (sound .replacement)
 
-pub searched-sound : (T Q : ℕ) (way : Direction) (p : Plain) → SoundPlain T Q p → SoundPlain T Q (searched way p .state)
+searched-sound : (T Q : ℕ) (way : Direction) (p : Plain) → SoundPlain T Q p → SoundPlain T Q (searched way p .state)
 unfolding searched
 searched-sound T Q way p sound =
     with-main-sound T Q _ p sound
     (carried-sound T (p .main) (side-sound T Q Main p sound) Move way (distance way (matches (p .pattern)) (p .main .text)))
+
+pub found-sound : (T Q : ℕ) (way : Direction) (p : Plain) → SoundPlain T Q p → SoundPlain T Q (found way p .state)
+unfolding found
+found-sound T Q way p sound = searched-sound T Q way (withPattern (p .mode) p) (with-pattern-sound T Q (p .mode) p sound)
 
 pub with-replacement-sound : (T Q : ℕ) (mode : Mode) (p : Plain) → SoundPlain T Q p → SoundPlain T Q (withReplacement mode p)
 unfolding withReplacement

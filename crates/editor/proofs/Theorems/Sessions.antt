@@ -6,17 +6,14 @@ use Prim.Native.Nat.{ℕ, _≤_}
 use native.Mathlib.Omega.{arith}
 use lib.ListN.{length, take, length-take}
 use Rattle.gap.specs.Sequence.{every}
-use Rattle.gap.specs.Nearest.{distance}
 use Rattle.gap.specs.Layout.{allowed}
 use Rattle.editor.specs.Words.{Key, Insert, Function, Recall, Quote, Find, Replace}
-use Rattle.editor.specs.Places.{isAt}
 use Rattle.editor.specs.Plain.{Plain, opening, Did, done}
-use Rattle.editor.specs.Keys.{soundKey, inserted, function, recalled, otherMode, quoted}
-use Rattle.editor.specs.Keys.{withPattern, found, withReplacement, replaced, pressed, fits, key}
+use Rattle.editor.specs.Keys.{soundKey, inserted, recalled, withReplacement, replaced, pressed, fits, key}
 use Rattle.editor.proofs.Laws.Sound.{SoundPlain}
 use Rattle.editor.proofs.Laws.Outcomes.{accepted}
-use Rattle.editor.proofs.Laws.Sides.{empty-holdable, right-holdable, carried-sound, inserted-sound, recalled-sound}
-use Rattle.editor.proofs.Laws.States.{on-side-sound, cleared-sound, with-pattern-sound, searched-sound}
+use Rattle.editor.proofs.Laws.Sides.{empty-holdable, right-holdable, inserted-sound, recalled-sound}
+use Rattle.editor.proofs.Laws.States.{side-sound, on-side-sound, on-side-fits, function-sound, quoted-sound, found-sound}
 use Rattle.editor.proofs.Laws.States.{with-replacement-sound, substituted-sound}
 
 -- 01, opening: n fits and its first n bytes are allowed, so that it is a session.
@@ -39,18 +36,16 @@ opening-sound T Q n text fits bytes size =
 -- What a sound key does keeps a session where the finished texts fit.
 pressed-sound : (T Q : ℕ) (k : Key) (p : Plain) → soundKey k ≡ true → fits T Q (pressed k p .state) ≡ true
     → SoundPlain T Q p → SoundPlain T Q (pressed k p .state)
-unfolding pressed soundKey function quoted found replaced
+unfolding pressed soundKey replaced
 pressed-sound T Q (Insert b) p ok room sound =
-    on-side-sound T Q (inserted b) p sound room (λ size s side fit. inserted-sound size s side b ok fit)
-pressed-sound T Q (Function action way place) p ok room sound =
-    on-side-sound T Q (function action way place) p sound room
-    (λ size s side fit. carried-sound size s side action way (distance way (isAt place way) (s .text)))
+    on-side-sound T Q (inserted b) p sound
+    (inserted-sound _ _ (side-sound T Q (p .mode) p sound) b ok (on-side-fits T Q (inserted b) p room))
+pressed-sound T Q (Function action way place) p ok room sound = function-sound T Q action way place p sound
 pressed-sound T Q Recall p ok room sound =
-    on-side-sound T Q recalled p sound room (λ size s side fit. recalled-sound size s side fit)
-pressed-sound T Q Quote p ok room sound =
-    cleared-sound T Q (p .pattern) (p .replacement) (otherMode (p .mode)) p sound (sound .pattern) (sound .replacement)
-pressed-sound T Q (Find way) p ok room sound =
-    searched-sound T Q way (withPattern (p .mode) p) (with-pattern-sound T Q (p .mode) p sound)
+    on-side-sound T Q recalled p sound
+    (recalled-sound _ _ (side-sound T Q (p .mode) p sound) (on-side-fits T Q recalled p room))
+pressed-sound T Q Quote p ok room sound = quoted-sound T Q p sound
+pressed-sound T Q (Find way) p ok room sound = found-sound T Q way p sound
 pressed-sound T Q Replace p ok room sound =
     substituted-sound T Q (withReplacement (p .mode) p) (with-replacement-sound T Q (p .mode) p sound) room
 
@@ -58,5 +53,5 @@ pressed-sound T Q Replace p ok room sound =
 pub key-keeps : (T Q : ℕ) (k : Key) (p : Plain) (did : Did Plain) → SoundPlain T Q p → key T Q k p ≡ done did
     → SoundPlain T Q (did .state)
 key-keeps T Q k p did sound e =
-    let told = accepted T Q k p did e in
-    subst (λ d. SoundPlain T Q (d .state)) (told .same) (pressed-sound T Q k p (told .sound) (told .room) sound)
+    let (ok, room, same) = accepted T Q k p did .0 e in
+    subst (λ d. SoundPlain T Q (d .state)) same (pressed-sound T Q k p ok room sound)

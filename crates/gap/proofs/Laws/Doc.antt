@@ -97,6 +97,11 @@ unfolding times delete splice
 deletions-right zero d = same-texts (front-zero (d .l) ∙ sym (append-nil _)) refl
 deletions-right (suc n) d = deletions-right n (delete Right d) ∙ same-texts refl (drop-next n (d .r))
 
+-- A splice that takes nothing away is an insertion.
+pub insertions : (x d : Doc) → splice 0 0 x d ≡ record { l = d .l ++ x .l; r = x .r ++ d .r }
+unfolding splice
+insertions x d = same-texts (ap (λ s. s ++ x .l) (sym (front-zero (d .l)))) refl
+
 -- Moves keep the content.
 pub content-moves : (way : Direction) (n : ℕ) (d : Doc) → content (times (move way) n d) ≡ content d
 content-moves Left n d = rw (moves-left, ← append-assoc, take-append-drop)

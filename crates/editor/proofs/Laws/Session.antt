@@ -1,0 +1,80 @@
+-- The test of sizes and the session test, each taken apart into what it asks, and put together again.
+use mathlib.Core.Path.{_≡_}
+use mathlib.Core.Bool.{Bool, true, _&&_}
+use Prim.Native.Nat.{ℕ, _*_, _≤_}
+use lib.Dec.{leb, eqb}
+use lib.ListN.{length}
+use borrow.Author.Tests.{leb-true, le-leb, eqb-true, eq-eqb}
+use Rattle.gap.specs.Layout.{soundGap, soundPair}
+use Rattle.gap.proofs.Laws.Tests.{and-left, and-right, and-both}
+use Rattle.editor.specs.Words.{Lengths}
+use Rattle.editor.specs.Bytes.{Stores, sized, quarterOf, oneHalf, unquoted, editorOk}
+
+-- What the test of sizes asks.
+pub record Measured (Q : ℕ) (b : Stores) : Type 0 where
+  pub low : 1 ≤ length (b .text)
+  pub high : length (b .text) ≤ 65536
+  pub recall : length (b .recall) ≡ length (b .text)
+  pub side : length (b .side) ≡ 4 * Q
+
+-- What the session test asks, test by test, under the names that SoundPlain has for them.
+pub record Passed (Q : ℕ) (n : Lengths) (b : Stores) : Type 0 where
+  pub text : soundGap (n .main .l) (n .main .r) (b .text) ≡ true
+  pub recall : soundPair (n .main .rl) (n .main .rr) (b .recall) ≡ true
+  pub quotation : soundGap (n .quoted .l) (n .quoted .r) (quarterOf Q 0 (b .side)) ≡ true
+  pub itsRecall : soundPair (n .quoted .rl) (n .quoted .rr) (quarterOf Q 1 (b .side)) ≡ true
+  pub pattern : soundPair (n .pl) 0 (quarterOf Q 2 (b .side)) ≡ true
+  pub replacement : soundPair (n .xl) (n .xr) (quarterOf Q 3 (b .side)) ≡ true
+  pub half : oneHalf (n .main) ≡ true
+  pub itsHalf : oneHalf (n .quoted) ≡ true
+  pub mode : unquoted (n .mode) (n .quoted) ≡ true
+
+-- Two tests and the others behind them.
+split : (a b others : Bool) → ((a && b) && others) ≡ true → (a ≡ true) × (b ≡ true) × (others ≡ true)
+split a b others e = (and-left a b (and-left (a && b) others e), and-right a b (and-left (a && b) others e), and-right (a && b) others e)
+
+module _ (Q : ℕ) (b : Stores) where
+  pub measured : sized Q b ≡ true → Measured Q b
+  unfolding sized
+  measured e =
+      let (low, high, others) = split (leb 1 (length (b .text))) _ _ e in
+      let same = eqb (length (b .recall)) (length (b .text)) in
+      record {
+        low = leb-true _ _ low;
+        high = leb-true _ _ high;
+        recall = eqb-true _ _ (and-left same _ others);
+        side = eqb-true _ _ (and-right same _ others);
+      }
+
+  pub measured-sized : Measured Q b → sized Q b ≡ true
+  unfolding sized
+  measured-sized m =
+      and-both (and-both (le-leb _ _ (m .low)) (le-leb _ _ (m .high))) (and-both (eq-eqb _ _ (m .recall)) (eq-eqb _ _ (m .side)))
+
+module _ (Q : ℕ) (n : Lengths) (b : Stores) where
+  pub passed : editorOk Q n b ≡ true → Passed Q n b
+  unfolding editorOk
+  passed e =
+      let (text, recall, quoted) = split (soundGap (n .main .l) (n .main .r) (b .text)) _ _ e in
+      let (quotation, itsRecall, pairs) = split (soundGap (n .quoted .l) (n .quoted .r) (quarterOf Q 0 (b .side))) _ _ quoted in
+      let (pattern, replacement, rest) = split (soundPair (n .pl) 0 (quarterOf Q 2 (b .side))) _ _ pairs in
+      let (half, itsHalf, mode) = split (oneHalf (n .main)) _ _ rest in
+      record {
+        text = text;
+        recall = recall;
+        quotation = quotation;
+        itsRecall = itsRecall;
+        pattern = pattern;
+        replacement = replacement;
+        half = half;
+        itsHalf = itsHalf;
+        mode = mode;
+      }
+
+  pub passed-ok : Passed Q n b → editorOk Q n b ≡ true
+  unfolding editorOk
+  passed-ok t =
+      and-both (and-both (t .text) (t .recall))
+      (and-both (and-both (t .quotation) (t .itsRecall))
+      (and-both (and-both (t .pattern) (t .replacement))
+      (and-both (and-both (t .half) (t .itsHalf)) (t .mode))))
