@@ -1,4 +1,4 @@
--- The plain state as record and stores: encoding, decoding, and the session test without the window's part.
+-- The plain state as record and stores: writing it down, reading it back, and the session test without the window's part.
 -- T is the length of the text store, Q that of a quarter of the side store.
 use Rattle.editor.specs.Words.{List, [], _++_, Bool, true, false, _&&_, _||_, cond, ℕ, _*_, eqb, leb, length, Mode, Main, Quoted, Key, Sizes, Lengths}
 use Rattle.gap.specs.Sequence.{part}
@@ -13,25 +13,25 @@ pub record Stores : Type 0 where
   pub recall : List ℕ
   pub side : List ℕ
 
--- 01, stores: a quarter has 256 bytes.
+-- 01, stores: the length of a quarter.
 unfoldable pub quarter : ℕ
 quarter = 256
 
--- 01, table of stores: text has 1 to 65,536 bytes, recall the same, side four quarters.
+-- The lengths that the three stores must have. (01, table of stores.)
 unfoldable pub sized : ℕ → Stores → Bool
 sized Q b =
     (leb 1 (length (b .text)) && leb (length (b .text)) 65536)
     && (eqb (length (b .recall)) (length (b .text)) && eqb (length (b .side)) (4 * Q))
 
--- Quarter i of the side store: quotation 0, its recall text 1, pattern 2, replacement 3.
+-- Quarter i of the side store: quotation 0, its recall text 1, pattern 2, replacement 3. (01, stores: side.)
 abbrev pub quarterOf : ℕ → ℕ → List ℕ → List ℕ
 quarterOf Q i side = part (i * Q) Q side
 
--- A pattern is a pair with no right text.
+-- The pattern is laid out as a pair that has no right half. (01, stores: pattern.)
 abbrev pub alone : List ℕ → Doc
 alone pattern = record { l = pattern; r = [] }
 
--- Decoding: the plain state that record and stores hold.
+-- Reading: the plain state that record and stores hold.
 unfoldable pub plainOf : ℕ → Lengths → Stores → Plain
 plainOf Q n b =
     record {
@@ -46,7 +46,7 @@ plainOf Q n b =
       mode = n .mode;
     }
 
--- Encoding: the lengths, and the bytes. The same plain state at the same T and Q always has the same bytes.
+-- Writing: the record's lengths, and the bytes. Nothing but the plain state, T and Q enters. (01, stores: same bytes.)
 abbrev pub sizesOf : Side → Sizes
 sizesOf s =
     record { l = length (s .text .l); r = length (s .text .r); rl = length (s .recall .l); rr = length (s .recall .r) }
@@ -72,16 +72,16 @@ storesOf T Q p =
           ++ (paired Q (p .quoted .recall) ++ (paired Q (alone (p .pattern)) ++ paired Q (p .replacement)));
     }
 
--- 01, session: of a recall pair at least one half is empty.
+-- A recall text lies on one side only. (01, session: recall pair.)
 abbrev pub oneHalf : Sizes → Bool
 oneHalf n = eqb (n .rl) 0 || eqb (n .rr) 0
 
--- 01, session: in mode MAIN the quotation and its recall text are empty.
+-- Without QUOTED there is no quotation. (01, session: mode MAIN.)
 abbrev pub unquoted : Mode → Sizes → Bool
 unquoted Main n = (eqb (n .l) 0 && eqb (n .r) 0) && (eqb (n .rl) 0 && eqb (n .rr) 0)
 unquoted Quoted n = true
 
--- 01, session, without the cursor's visibility. The replacement may have two halves.
+-- All that a session asks but for the cursor on the screen. A replacement may have both halves. (01, session. DECISIONS B20.)
 unfoldable pub editorOk : ℕ → Lengths → Stores → Bool
 editorOk Q n b =
     (soundGap (n .main .l) (n .main .r) (b .text) && soundPair (n .main .rl) (n .main .rr) (b .recall))
@@ -89,7 +89,7 @@ editorOk Q n b =
     && ((soundPair (n .pl) 0 (quarterOf Q 2 (b .side)) && soundPair (n .xl) (n .xr) (quarterOf Q 3 (b .side)))
     && ((oneHalf (n .main) && oneHalf (n .quoted)) && unquoted (n .mode) (n .quoted))))
 
--- What the editor layer's key call gives: 0 or a refusal's number, steps, bell, the record's lengths and the stores.
+-- What this layer's key call gives: 0 or a refusal's number, steps, bell, the record's lengths and the stores.
 pub record Edited : Type 0 where
   pub code : ℕ
   pub steps : ℕ
@@ -97,13 +97,13 @@ pub record Edited : Type 0 where
   pub lengths : Lengths
   pub stores : Stores
 
--- 01, refusals: a refused key leaves record and stores as they were, with steps and bell 0.
-abbrev pub turnedDown : Lengths → Stores → ℕ → Edited
-turnedDown n b code = record { code = code; steps = 0; bell = false; lengths = n; stores = b }
+-- Refused, it gives back what it was given. (01, refusals: what a refusal leaves.)
+abbrev pub unedited : Lengths → Stores → ℕ → Edited
+unedited n b code = record { code = code; steps = 0; bell = false; lengths = n; stores = b }
 
-abbrev pub finished : ℕ → Lengths → Stores → Outcome → Edited
-finished Q n b (refused code) = turnedDown n b code
-finished Q n b (done did) =
+abbrev pub editedTo : ℕ → Lengths → Stores → Outcome → Edited
+editedTo Q n b (refused code) = unedited n b code
+editedTo Q n b (done did) =
     record {
       code = 0;
       steps = did .steps;
@@ -112,9 +112,9 @@ finished Q n b (done did) =
       stores = storesOf (length (b .text)) Q (did .state);
     }
 
--- The key call of this layer: SIZE, SESSION, then what the plain editor says of the plain state held.
+-- SIZE, then SESSION, then what the plain editor says of the plain state held.
 unfoldable pub edited : ℕ → Lengths → Key → Stores → Edited
 edited Q n k b =
     cond (sized Q b)
-    (cond (editorOk Q n b) (finished Q n b (key (length (b .text)) Q k (plainOf Q n b))) (turnedDown n b SESSION))
-    (turnedDown n b SIZE)
+    (cond (editorOk Q n b) (editedTo Q n b (key (length (b .text)) Q k (plainOf Q n b))) (unedited n b SESSION))
+    (unedited n b SIZE)

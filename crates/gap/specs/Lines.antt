@@ -1,7 +1,7 @@
--- Newlines of a text (01, window, virtual text and cursor).
+-- Newlines and lines of a text. (01, the window: lines, cursor.)
 use Rattle.gap.specs.Words.{List, [], _∷_, cond, ℕ, suc, eqb}
 
--- The byte that separates lines.
+-- The byte between two lines.
 abbrev pub newline : ℕ
 newline = 10
 
@@ -10,16 +10,15 @@ unfoldable pub newlines : List ℕ → ℕ
 newlines [] = 0
 newlines (b ∷ s) = cond (eqb b newline) (suc (newlines s)) (newlines s)
 
--- The bytes since the last newline, of a text that follows n bytes of its line.
+-- How far the end of a text is from the start of its line, if the text follows n bytes of that line.
 unfoldable pub sinceAfter : ℕ → List ℕ → ℕ
 sinceAfter n [] = n
 sinceAfter n (b ∷ s) = sinceAfter (cond (eqb b newline) 0 (suc n)) s
 
--- The bytes since the last newline, or since the start.
 abbrev pub since : List ℕ → ℕ
 since s = sinceAfter 0 s
 
--- Lines are what newlines separate: one more than there are newlines.
+-- The text cut at its newlines: always one line more than there are newlines, so at least one.
 abbrev pub longer : ℕ → List (List ℕ) → List (List ℕ)
 longer b [] = (b ∷ []) ∷ []
 longer b (first ∷ rest) = (b ∷ first) ∷ rest

@@ -7,7 +7,7 @@ use native.Mathlib.Omega.{arith}
 use lib.Dec.{eqb}
 use lib.ListN.{length, take, drop, length-append, length-take, length-drop}
 use Rattle.gap.specs.Sequence.{every, begins}
-use Rattle.gap.specs.Doc.{Doc, empty, content, move, delete, times, passed, splice}
+use Rattle.gap.specs.Doc.{Doc, empty, content, move, delete, times, passed, splice, removed}
 use Rattle.gap.specs.Layout.{allowed}
 use Rattle.gap.proofs.Laws.Tests.{and-both, or-right}
 use Rattle.gap.proofs.Laws.Sequence.{every-both, every-left, every-right, every-take, every-drop, begins-split}
@@ -16,7 +16,7 @@ use Rattle.gap.proofs.Laws.Layout.{Holdable}
 use Rattle.editor.specs.Words.{Direction, Left, Right, Search, Reached, Nowhere, Action, Move, Delete}
 use Rattle.editor.specs.Plain.{Side}
 use Rattle.editor.specs.Bytes.{sizesOf, oneHalf}
-use Rattle.editor.specs.Keys.{inserted, removed, carried, recalled}
+use Rattle.editor.specs.Keys.{inserted, carried, recalled}
 
 -- The text and its recall text fit their stores with allowed bytes, and one half of the recall text is empty.
 pub record SoundSide (size : ℕ) (s : Side) : Type 0 where
@@ -29,7 +29,7 @@ unfolding every
 empty-holdable size = record { fits = omega arith; bytes = refl }
 
 -- What can be held is a matter of the content: where the cursor stands does not count.
-pub holdable : (size : ℕ) (d : Doc) → length (content d) ≤ size → every allowed (content d) ≡ true → Holdable size d
+holdable : (size : ℕ) (d : Doc) → length (content d) ≤ size → every allowed (content d) ≡ true → Holdable size d
 holdable size d fits bytes = record { fits = omega (arith, length-append (d .l) (d .r)); bytes = bytes }
 
 pub content-fits : (size : ℕ) (d : Doc) → Holdable size d → length (content d) ≤ size
@@ -42,7 +42,7 @@ unfolding splice
 length-splice a b x d = simp (length-append, length-take, length-drop) (omega arith)
 
 -- A change that puts allowed bytes in keeps the bytes allowed.
-pub allowed-splice : (a b : ℕ) (x d : Doc) → every allowed (content x) ≡ true → every allowed (content d) ≡ true
+allowed-splice : (a b : ℕ) (x d : Doc) → every allowed (content x) ≡ true → every allowed (content d) ≡ true
     → every allowed (content (splice a b x d)) ≡ true
 unfolding splice
 allowed-splice a b x d new old =
@@ -66,11 +66,11 @@ unfolding every
 less-holdable size a b d h =
     splice-holdable size a b empty d refl h (omega (arith, length-splice a b empty d, h .fits))
 
-pub deletions-holdable : (size n : ℕ) (way : Direction) (d : Doc) → Holdable size d → Holdable size (times (delete way) n d)
+deletions-holdable : (size n : ℕ) (way : Direction) (d : Doc) → Holdable size d → Holdable size (times (delete way) n d)
 deletions-holdable size n Left d h = rw deletions-left (less-holdable size n 0 d h)
 deletions-holdable size n Right d h = rw deletions-right (less-holdable size 0 n d h)
 
-pub moves-holdable : (size n : ℕ) (way : Direction) (d : Doc) → Holdable size d → Holdable size (times (move way) n d)
+moves-holdable : (size n : ℕ) (way : Direction) (d : Doc) → Holdable size d → Holdable size (times (move way) n d)
 moves-holdable size n way d h =
     holdable size (times (move way) n d) (rw content-moves (content-fits size d h)) (rw content-moves (h .bytes))
 

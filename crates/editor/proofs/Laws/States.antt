@@ -4,13 +4,13 @@ use mathlib.Core.Bool.{Bool, true, false, cond}
 use mathlib.Core.List.{List, []}
 use Prim.Native.Nat.{ℕ, _≤_}
 use native.Mathlib.Omega.{arith}
-use borrow.Author.Tests.{leb-true}
+use borrow.Author.Tests.{leb-true, le-leb}
 use lib.Dec.{leb}
 use lib.ListN.{length}
 use Rattle.gap.specs.Doc.{Doc, content}
 use Rattle.gap.specs.Nearest.{distance}
 use Rattle.gap.specs.Layout.{allowed}
-use Rattle.gap.proofs.Laws.Tests.{and-left, and-right}
+use Rattle.gap.proofs.Laws.Tests.{and-left, and-right, and-both}
 use Rattle.gap.proofs.Laws.Sequence.{every-left}
 use Rattle.gap.proofs.Laws.Layout.{Holdable}
 use Rattle.editor.specs.Words.{Direction, Action, Move, Place, Mode, Main, Quoted}
@@ -68,8 +68,24 @@ with-side-sound T Q Quoted s p e sound side =
       mode = ap (λ m. unquoted m (sizesOf s)) e;
     }
 
--- FULL's test passes exactly when both texts keep to their limits.
-pub fits-side : (T Q : ℕ) (mode : Mode) (p : Plain) → fits T Q p ≡ true → length (content (sideOf mode p .text)) ≤ limit T Q mode
+-- Two edits of the mode's side, one after the other.
+pub on-side-twice : (edit next : Side → Did Side) (p : Plain) → onSide next (onSide edit p .state) ≡ onSide (λ s. next (edit s .state)) p
+unfolding onSide
+on-side-twice edit next p = go (p .mode) (p .main) (p .quoted) (p .pattern) (p .replacement)
+  where
+    go : (mode : Mode) (main quotation : Side) (pattern : List ℕ) (replacement : Doc)
+        → let q : Plain = record { main = main; quoted = quotation; pattern = pattern; replacement = replacement; mode = mode } in
+        onSide next (onSide edit q .state) ≡ onSide (λ s. next (edit s .state)) q
+    go Main main quotation pattern replacement = refl
+    go Quoted main quotation pattern replacement = refl
+
+-- FULL's test: in a session it passes, and where it passes each text keeps to its limit.
+pub sound-fits : (T Q : ℕ) (p : Plain) → SoundPlain T Q p → fits T Q p ≡ true
+unfolding fits
+sound-fits T Q p sound =
+    and-both (le-leb _ _ (content-fits T (p .main .text) (sound .text))) (le-leb _ _ (content-fits Q (p .quoted .text) (sound .quotation)))
+
+fits-side : (T Q : ℕ) (mode : Mode) (p : Plain) → fits T Q p ≡ true → length (content (sideOf mode p .text)) ≤ limit T Q mode
 unfolding fits
 fits-side T Q Main p e = leb-true _ _ (and-left _ _ e)
 fits-side T Q Quoted p e = leb-true _ _ (and-right (leb (length (content (p .main .text))) T) _ e)
@@ -87,7 +103,7 @@ on-side-fits T Q edit p room =
     let side = edit (sideOf (p .mode) p) .state in
     rw (side-with (p .mode) side p) at (fits-side T Q (p .mode) (withSide (p .mode) side p) room)
 
--- Moves and deletions keep a session, and so do searches: there is always room.
+-- Moves and deletions keep a session: there is always room.
 pub function-sound : (T Q : ℕ) (action : Action) (way : Direction) (place : Place) (p : Plain) → SoundPlain T Q p
     → SoundPlain T Q (onSide (function action way place) p .state)
 unfolding function

@@ -20,8 +20,8 @@ use Rattle.editor.specs.Keys.{soundFunction, soundKey, inserted, recalle
 use Rattle.editor.specs.Keys.{matches, withReplacement, exchanged, substituted, replaced, pressed, fits, key}
 use Rattle.editor.proofs.Laws.Sound.{SoundPlain}
 use Rattle.editor.proofs.Laws.Outcomes.{key-refused, full-refused, accepted, refusal-number}
-use Rattle.editor.proofs.Laws.Sides.{content-fits, length-splice, begins-fits}
-use Rattle.editor.proofs.Laws.States.{limit, function-sound, quoted-sound, found-sound, with-replacement-sound}
+use Rattle.editor.proofs.Laws.Sides.{length-splice, begins-fits}
+use Rattle.editor.proofs.Laws.States.{limit, sound-fits, function-sound, quoted-sound, found-sound, with-replacement-sound}
 
 -- 01, KEY: an insert of a byte that is not allowed, a deletion left to a line ending, a deletion right to a line beginning.
 pub data Unsound : Key → Type 0 where
@@ -111,9 +111,7 @@ module _ (T Q : ℕ) (k : Key) (p : Plain) where
 
 -- In a session nothing exceeds.
 keeps-within : (T Q : ℕ) (p : Plain) → SoundPlain T Q p → ¬ Exceeds T Q p
-keeps-within T Q p sound =
-    ⊎-elim (λ over. omega (arith, content-fits T (p .main .text) (sound .text)))
-    (λ over. omega (arith, content-fits Q (p .quoted .text) (sound .quotation)))
+keeps-within T Q p sound = fits-within T Q p .0 (sound-fits T Q p sound)
 
 -- After an edit of the mode's side only that side can exceed.
 on-side-exceeds : (T Q : ℕ) (edit : Side → Did Side) (p : Plain) → SoundPlain T Q p

@@ -1,26 +1,25 @@
 -- Opening gives a session, and every accepted key leads from a session to a session (01, session).
 use mathlib.Core.Path.{_≡_, refl, subst}
 use mathlib.Core.Bool.{true}
-use mathlib.Core.List.{List}
+use mathlib.Core.List.{List, [], _∷_}
 use Prim.Native.Nat.{ℕ, _≤_}
 use native.Mathlib.Omega.{arith}
 use lib.ListN.{length, take, length-take}
 use Rattle.gap.specs.Sequence.{every}
 use Rattle.gap.specs.Layout.{allowed}
 use Rattle.editor.specs.Words.{Key, Insert, Function, Recall, Quote, Find, Replace}
-use Rattle.editor.specs.Plain.{Plain, opening, Did, done}
-use Rattle.editor.specs.Keys.{soundKey, inserted, recalled, withReplacement, replaced, pressed, fits, key}
+use Rattle.editor.specs.Plain.{Plain, opening, Did, Outcome, refused, done}
+use Rattle.editor.specs.Keys.{soundKey, inserted, recalled, withReplacement, replaced, pressed, fits, key, after, keys}
 use Rattle.editor.proofs.Laws.Sound.{SoundPlain}
 use Rattle.editor.proofs.Laws.Outcomes.{accepted}
 use Rattle.editor.proofs.Laws.Sides.{empty-holdable, right-holdable, inserted-sound, recalled-sound}
 use Rattle.editor.proofs.Laws.States.{side-sound, on-side-sound, on-side-fits, function-sound, quoted-sound, found-sound}
 use Rattle.editor.proofs.Laws.States.{with-replacement-sound, substituted-sound}
 
--- 01, opening: n fits and its first n bytes are allowed, so that it is a session.
-pub opening-sound : (T Q n : ℕ) (text : List ℕ) → n ≤ T → every allowed (take n text) ≡ true → length text ≡ T
+-- Where n fits and the first n bytes are allowed, opening gives a session.
+pub opening-sound : (T Q n : ℕ) (text : List ℕ) → n ≤ T → every allowed (take n text) ≡ true
     → SoundPlain T Q (opening (take n text))
-unfolding every
-opening-sound T Q n text fits bytes size =
+opening-sound T Q n text fits bytes =
     record {
       text = right-holdable T (take n text) (simp length-take (omega arith)) bytes;
       recall = empty-holdable T;
@@ -55,3 +54,13 @@ pub key-keeps : (T Q : ℕ) (k : Key) (p : Plain) (did : Did Plain) → SoundPla
 key-keeps T Q k p did sound e =
     let (ok, room, same) = accepted T Q k p did .0 e in
     subst (λ d. SoundPlain T Q (d .state)) same (pressed-sound T Q k p ok room sound)
+
+-- So every list of keys does, refused ones skipped.
+pub keys-keep : (T Q : ℕ) (ks : List Key) (p : Plain) → SoundPlain T Q p → SoundPlain T Q (keys T Q ks p)
+unfolding keys
+keys-keep T Q [] p sound = sound
+keys-keep T Q (k ∷ ks) p sound = keys-keep T Q ks (after p (key T Q k p)) (go (key T Q k p) refl)
+  where
+    go : (outcome : Outcome) → key T Q k p ≡ outcome → SoundPlain T Q (after p outcome)
+    go (refused n) e = sound
+    go (done did) e = key-keeps T Q k p did sound e
