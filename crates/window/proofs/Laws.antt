@@ -1,2 +1,4 @@
 pub mod Window
 pub mod Rows
+pub mod Views
+pub mod Order

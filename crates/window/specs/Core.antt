@@ -1,5 +1,6 @@
 -- The core: opening and the key call as total functions on any record and any four stores.
-use Rattle.window.specs.Words.{List, Bool, false, not, _&&_, cond, ℕ, _-_, _*_, eqb, leb, length, take, getD, Main, Key, Search, Reached, Nowhere, Sizes, Frame, Session}
+use Rattle.window.specs.Words.{List, Bool, false, not, _&&_, cond, ℕ, _-_, _*_, eqb, leb, length, take, getD}
+use Rattle.window.specs.Words.{Main, Key, Search, Reached, Nowhere, Sizes, Frame, Session}
 use Rattle.gap.specs.Doc.{Doc}
 use Rattle.gap.specs.Nearest.{nearest}
 use Rattle.gap.specs.Layout.{allowed}
@@ -9,12 +10,14 @@ use Rattle.editor.specs.Bytes.{Stores, quarter, sized, plainOf, lengthsOf, stor
 use Rattle.window.specs.Window.{virtual, rowOf, columnOf, window, visible, policy}
 use Rattle.window.specs.Rows.{firstRow, lastRow}
 
+-- ---- What goes in and comes out
+
 -- The four lent stores: the editor's three, and the screen.
 pub record Lent : Type 0 where
   pub stores : Stores
   pub screen : List ℕ
 
--- What a call answers.
+-- The answer: 0 or a refusal's number, place, steps, bell, named rows and cursor.
 pub record Answer : Type 0 where
   pub code : ℕ
   pub place : ℕ
@@ -25,17 +28,19 @@ pub record Answer : Type 0 where
   pub row : ℕ
   pub column : ℕ
 
--- The whole outcome of a call: the answer, the record handed back, and the four stores.
+-- All that a call determines: the answer, the record handed back, and the bytes of the four stores.
 pub record Called : Type 0 where
   pub answer : Answer
   pub session : Session
   pub lent : Lent
 
 -- T is the length of the text store.
-abbrev pub T : Lent → ℕ
-T b = length (b .stores .text)
+abbrev pub T : Stores → ℕ
+T b = length (b .text)
 
--- 01, table of stores and refusals, SIZE: H is 1 to 64, W is 1 to 256, the screen H times W bytes, the other stores as tabled.
+-- ---- Sizes and sessions
+
+-- 01, table of stores: H, W and the length of the screen; the other three stores are the editor's to judge.
 abbrev pub rowsAndColumns : ℕ → ℕ → Bool
 rowsAndColumns H W = (leb 1 H && leb H 64) && (leb 1 W && leb W 256)
 
@@ -43,19 +48,21 @@ unfoldable pub tabled : ℕ → ℕ → Lent → Bool
 tabled H W b = sized quarter (b .stores) && (rowsAndColumns H W && eqb (length (b .screen)) (H * W))
 
 -- The plain state that record and stores hold.
-abbrev pub held : Session → Lent → Plain
-held s b = plainOf quarter (s .lengths) (b .stores)
+abbrev pub held : Session → Stores → Plain
+held s b = plainOf quarter (s .lengths) b
 
--- 01, session: what the editor asks, and a visible cursor.
-unfoldable pub isSession : Session → Lent → Bool
-isSession s b = editorOk quarter (s .lengths) (b .stores) && visible (s .frame) (virtual (held s b))
+-- Record and stores are a session; what the screen shows does not matter. (01, session. DECISIONS B17.)
+unfoldable pub isSession : Session → Stores → Bool
+isSession s b = editorOk quarter (s .lengths) b && visible (s .frame) (virtual (held s b))
 
--- A refusal: place is 0 except for TEXT; steps, bell, named rows and cursor are all 0.
+-- ---- Answers
+
+-- A refusal says its number and, for TEXT, the place; everything else is 0. (01, refusals: what a refusal leaves.)
 abbrev pub refusal : ℕ → ℕ → Answer
 refusal code place =
     record { code = code; place = place; steps = 0; bell = false; first = 0; last = 0; row = 0; column = 0 }
 
--- An accepted call: the cursor is reported as row - r and column - c.
+-- An accepted call says steps, bell, named rows, and where on the screen the cursor is. (01, the window: cursor.)
 abbrev pub accepted : ℕ → Bool → ℕ → ℕ → Frame → Doc → Answer
 accepted steps bell first last f d =
     record {
@@ -69,14 +76,16 @@ accepted steps bell first last f d =
       column = columnOf d - f .c;
     }
 
--- A plain state seen through a window, as record and stores: the bytes are determined by it and T.
+-- A plain state seen through a window, as record and as stores of T bytes.
 abbrev pub sessionOf : Plain → Frame → Session
 sessionOf p f = record { lengths = lengthsOf p; frame = f }
 
 abbrev pub lentOf : ℕ → Plain → Frame → Lent
 lentOf T p f = record { stores = storesOf T quarter p; screen = window f (virtual p) }
 
--- 01, refusals: a refused opening returns a record of zeros in mode MAIN and leaves all four stores as they were.
+-- ---- Opening
+
+-- Refused, it gives a record of zeros, and the stores as they were. (01, refusals: refused opening. DECISIONS B25.)
 abbrev pub zeroSizes : Sizes
 zeroSizes = record { l = 0; r = 0; rl = 0; rr = 0 }
 
@@ -90,7 +99,8 @@ zeroRecord =
 abbrev pub unopened : Lent → ℕ → ℕ → Called
 unopened b code place = record { answer = refusal code place; session = zeroRecord; lent = b }
 
--- 01, opening: cursor at the beginning, everything else empty, r = c = 0, the screen painted and rows 1 to H named.
+-- Accepted, the first n bytes of the text store are the document, seen from its beginning; every row is named, whatever the lent
+-- screen showed. (01, opening. DECISIONS B23, B27.)
 abbrev pub start : ℕ → ℕ → Frame
 start H W = record { r = 0; c = 0; h = H; w = W }
 
@@ -100,10 +110,10 @@ openedText n H W b =
     record {
       answer = accepted 0 false 1 H (start H W) (virtual p);
       session = sessionOf p (start H W);
-      lent = lentOf (T b) p (start H W);
+      lent = lentOf (T (b .stores)) p (start H W);
     }
 
--- 01, refusals, TEXT: the place is the first index whose byte is not allowed.
+-- The first of n bytes that is not allowed, from 0. (01, refusals: TEXT.)
 abbrev pub badByte : ℕ → List ℕ → Search
 badByte n text = nearest (λ i. not (allowed (getD text i 0))) n 0
 
@@ -111,37 +121,41 @@ abbrev pub unlessBad : Search → Lent → Called → Called
 unlessBad (Reached i) b o = unopened b TEXT i
 unlessBad Nowhere b o = o
 
--- Opening checks SIZE, LONG, TEXT, in this order. n is the stated length of the text.
+-- SIZE, then LONG, then TEXT; n is the stated length of the text. (01, refusals: order.)
 unfoldable pub opened : ℕ → ℕ → ℕ → Lent → Called
 opened n H W b =
     cond (tabled H W b)
-    (cond (leb n (T b)) (unlessBad (badByte n (b .stores .text)) b (openedText n H W b)) (unopened b LONG 0))
+    (cond (leb n (T (b .stores))) (unlessBad (badByte n (b .stores .text)) b (openedText n H W b)) (unopened b LONG 0))
     (unopened b SIZE 0)
 
--- 01, refusals: a refused key returns the record it was given and leaves all four stores as they were.
+-- ---- A key
+
+-- Refused, it gives record and stores back as they were. (01, refusals: refused key.)
 abbrev pub turnedDown : Session → Lent → ℕ → Called
 turnedDown s b code = record { answer = refusal code 0; session = s; lent = b }
 
--- After an accepted key the policy gives the offsets, the screen is the window, and the named rows compare the lent screen with it.
+-- Done, the policy gives the offsets, the screen becomes the window, and the rows in which the lent screen differs from it are named.
+-- (01, the window: policy, named rows.)
 unfoldable pub shown : Frame → Lent → Did Plain → Called
 shown f b did =
     let d = virtual (did .state) in
     let g = policy f d in
     let screen = window g d in
+    let first = firstRow (g .h) (g .w) (b .screen) screen in
+    let last = lastRow (g .h) (g .w) (b .screen) screen in
     record {
-      answer =
-          accepted (did .steps) (did .bell) (firstRow (g .h) (g .w) (b .screen) screen) (lastRow (g .h) (g .w) (b .screen) screen) g d;
+      answer = accepted (did .steps) (did .bell) first last g d;
       session = sessionOf (did .state) g;
-      lent = lentOf (T b) (did .state) g;
+      lent = lentOf (T (b .stores)) (did .state) g;
     }
 
 unfoldable pub finished : Session → Lent → Outcome → Called
 finished s b (refused code) = turnedDown s b code
 finished s b (done did) = shown (s .frame) b did
 
--- A key checks SIZE, SESSION, KEY, FULL, in this order; the last two are the plain editor's.
+-- SIZE, then SESSION, then what the plain editor says: KEY, FULL or done. (01, refusals: order.)
 unfoldable pub keyed : Session → Key → Lent → Called
 keyed s k b =
     cond (tabled (s .frame .h) (s .frame .w) b)
-    (cond (isSession s b) (finished s b (key (T b) quarter k (held s b))) (turnedDown s b SESSION))
+    (cond (isSession s (b .stores)) (finished s b (key (T (b .stores)) quarter k (held s (b .stores)))) (turnedDown s b SESSION))
     (turnedDown s b SIZE)

@@ -3,5 +3,6 @@ pub mod Words
 pub mod Window
 pub mod Rows
 pub mod Core
+pub mod Promise
 pub mod Terminal
 pub mod Table

@@ -79,7 +79,7 @@ unfoldable pub holds : Called → Fact → Bool
 holds o (Code n) = eqb (o .answer .code) n
 holds o (Steps n) = eqb (o .answer .steps) n
 holds o (Bell b) = sameBool (o .answer .bell) b
-holds o (Text s) = sameDoc (held (o .session) (o .lent) .main .text) (marked s)
+holds o (Text s) = sameDoc (held (o .session) (o .lent .stores) .main .text) (marked s)
 holds o (Offset c) = eqb (o .session .frame .c) c
 holds o (Cursor row column) = eqb (o .answer .row) row && eqb (o .answer .column) column
 holds o (Named first last) = eqb (o .answer .first) first && eqb (o .answer .last) last
@@ -133,8 +133,8 @@ edges =
     ∷ usual "|FOO FOO" findFOO (Code 0 ∷ Text "FOO |FOO" ∷ Steps 4 ∷ Bell false ∷ [])
     ∷ usual "|FOO FOO" replaceBAZ (Code 0 ∷ Text "FOO BAZ|" ∷ Steps 0 ∷ Bell false ∷ [])
     ∷ usual "|FOO FOO" (replaceBAZ ++ (Recall ∷ [])) (Code 0 ∷ Text "FOO BAZ|FOO" ∷ Steps 0 ∷ Bell false ∷ [])
-    ∷ record { T = 16; H = 16; W = 4; at = "abc|de"; keys = Function Move Right Character ∷ []; facts = Code 0 ∷ Offset 0 ∷ [] }
-    ∷ record { T = 16; H = 16; W = 4; at = "abcd|e"; keys = Function Move Right Character ∷ []; facts = Code 0 ∷ Offset 1 ∷ [] }
+    ∷ record { T = 16; H = 16; W = 4; at = "abc|de"; keys = Function Move Right Character ∷ []; facts = Code 0 ∷ Text "abcd|e" ∷ Offset 0 ∷ Cursor 1 4 ∷ [] }
+    ∷ record { T = 16; H = 16; W = 4; at = "abcd|e"; keys = Function Move Right Character ∷ []; facts = Code 0 ∷ Text "abcde|" ∷ Offset 1 ∷ Cursor 1 4 ∷ [] }
     ∷ record {
       T = 16;
       H = 2;

@@ -1,30 +1,33 @@
--- Virtual text, cursor, window, visibility and policy (01, the window; 001, sections 2 and 3).
-use Rattle.window.specs.Words.{List, [], _∷_, _++_, map, Bool, _&&_, cond, ℕ, suc, _+_, _-_, leb, ltb, getD, Mode, Main, Quoted, Frame}
+-- Virtual text, cursor, window, visibility and policy. (01, the window; 001, sections 2 and 3.)
+use Rattle.window.specs.Words.{List, [], _∷_, _++_, map, Bool, _&&_, cond, ℕ, suc, _+_, _-_, leb, ltb, getD}
+use Rattle.window.specs.Words.{Mode, Main, Quoted, Frame}
 use Rattle.gap.specs.Sequence.{counted}
 use Rattle.gap.specs.Doc.{Doc, content}
-use Rattle.gap.specs.Lines.{newlines, since, lines}
+use Rattle.gap.specs.Lines.{newline, newlines, since, lines}
 use Rattle.editor.specs.Plain.{Plain}
 
--- The virtual text: the document in MAIN; in QUOTED the quotation stands on a line of its own, begun by `>`.
+-- What is looked at: in MAIN the document d; in QUOTED the quotation q besides, on lines of its own at the document's cursor, the
+-- first begun by `>` (62). (01: virtual text. DECISIONS B16.)
 unfoldable pub virtualIn : Mode → Doc → Doc → Doc
 virtualIn Main d q = d
-virtualIn Quoted d q = record { l = d .l ++ (10 ∷ 62 ∷ q .l); r = q .r ++ (10 ∷ d .r) }
+virtualIn Quoted d q = record { l = d .l ++ (newline ∷ 62 ∷ q .l); r = q .r ++ (newline ∷ d .r) }
 
 abbrev pub virtual : Plain → Doc
 virtual p = virtualIn (p .mode) (p .main .text) (p .quoted .text)
 
--- The cursor has row 1 + newlines to its left, and column = bytes since the last newline, from 0.
+-- Where its cursor stands: rows count from 1, columns from 0. (01: cursor.)
 abbrev pub rowOf : Doc → ℕ
 rowOf d = suc (newlines (d .l))
 
 abbrev pub columnOf : Doc → ℕ
 columnOf d = since (d .l)
 
--- Row i, column j of the screen, counted from 1, shows byte c + j of line r + i, and 32 where there is none. Lists count from 0.
+-- The cell in row i and column j of the screen, both from 1, with the offsets r and c of the frame; blank past the line's end and
+-- below the last line. Lists count from 0, so the cell's line is number r + (i - 1). (01: window.)
 abbrev pub cell : Frame → List (List ℕ) → ℕ → ℕ → ℕ
 cell f ls i j = getD (getD ls (f .r + (i - 1)) []) (f .c + (j - 1)) 32
 
--- A row of cells, and the screen row by row.
+-- The cells of row i, and the whole screen row by row.
 unfoldable pub rowCells : Frame → List (List ℕ) → ℕ → List ℕ
 rowCells f ls i = map (cell f ls i) (counted (f .w) 1)
 
@@ -35,13 +38,13 @@ joined (s ∷ rest) = s ++ joined rest
 unfoldable pub window : Frame → Doc → List ℕ
 window f d = joined (map (rowCells f (lines (content d))) (counted (f .h) 1))
 
--- The cursor is visible exactly when r < row <= r + H and c <= column <= c + W.
+-- The cursor can be shown: its row is one of the H below r, its column one of the W + 1 from c on. (01: visible, column 0.)
 unfoldable pub visible : Frame → Doc → Bool
 visible f d =
     (ltb (f .r) (rowOf d) && leb (rowOf d) (f .r + f .h)) && (leb (f .c) (columnOf d) && leb (columnOf d) (f .c + f .w))
 
--- The policy: row <= r makes r = row - 1; row > r + H makes r = row - H; column < c makes c = column;
--- column > c + W makes c = column - W; otherwise each offset stays.
+-- The offsets move as little as shows the cursor: above the window its row becomes the first, below it the last; left of it its
+-- column comes to the left edge, right of it to the right edge. (01: policy. DECISIONS B28.)
 abbrev pub policyRow : Frame → ℕ → ℕ
 policyRow f row = cond (leb row (f .r)) (row - 1) (cond (ltb (f .r + f .h) row) (row - f .h) (f .r))
 

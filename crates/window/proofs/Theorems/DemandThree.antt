@@ -1,1 +1,129 @@
--- To come.
+-- Demand 3: a terminal that is given the full screen once and afterwards only the named rows shows the window of the plain
+-- document after the same keys, refused ones skipped.
+use mathlib.Core.Path.{_≡_, refl, sym, ap, ap₂, subst, subst⁻¹, _∙_}
+use mathlib.Core.Bool.{true}
+use mathlib.Core.List.{List, [], _∷_}
+use Prim.Native.Nat.{ℕ}
+use lib.ListN.{take}
+use Rattle.gap.specs.Sequence.{every}
+use Rattle.editor.specs.declared.Key.{Key}
+use Rattle.editor.specs.Plain.{Outcome, refused, done, opening}
+use Rattle.editor.specs.Keys.{key, keys, after}
+use Rattle.editor.specs.Bytes.{quarter}
+use Rattle.window.specs.Words.{Session}
+use Rattle.window.specs.Window.{virtual, window, policy}
+use Rattle.window.specs.Core.{Lent, T, tabled, held, isSession, lentOf, openedText, opened, finished, shown, keyed}
+use Rattle.window.specs.Terminal.{Bench, View, openedBench, openingView, given, repaint, struck, typed, looked, viewed, picture}
+use Rattle.window.proofs.Laws.Window.{length-window, printable, window-printable, virtual-allowed}
+use Rattle.window.proofs.Laws.Rows.{repainted}
+use Rattle.window.proofs.Laws.Views.{tabled-facts, Good, recordOf, storesWith, view-keyed, view-size, looked-good}
+use Rattle.window.proofs.Theorems.Refusals.{opening-done}
+use Rattle.window.proofs.Theorems.Sessions.{opening-view, session-keyed}
+use Rattle.window.proofs.Theorems.NamedRows.{Shortest, unchanged-shortest, named-rows}
+
+looked-after : (v : View) (o : Outcome) → looked v o .plain ≡ after (v .plain) o
+looked-after v (refused n) = refl
+looked-after v (done did) = refl
+
+-- A good view shows only bytes 32 to 126.
+pub picture-printable : (size : ℕ) (v : View) → Good size v → every printable (picture v) ≡ true
+picture-printable size v good =
+    window-printable (v .frame) (virtual (v .plain))
+    (virtual-allowed (v .plain .mode) (v .plain .main .text) (v .plain .quoted .text) (good .sound .text .bytes) (good .sound .quotation .bytes))
+
+-- Record, stores and terminal all hold the view: the terminal shows its window.
+pub record Showing (size : ℕ) (v : View) (at : Bench) : Type 0 where
+  pub session : at .called .session ≡ recordOf v
+  pub lent : at .called .lent ≡ storesWith size v (picture v)
+  pub terminal : at .terminal ≡ picture v
+
+-- Repainting with no named rows changes nothing; with those of an accepted key it shows the new window.
+outcome-showing : (size : ℕ) (v : View) → Good size v → (o : Outcome)
+    → Showing size (looked v o) (given (finished (recordOf v) (storesWith size v (picture v)) o) (picture v))
+unfolding finished shown repaint policy
+outcome-showing size v good (refused n) = record { session = refl; lent = refl; terminal = refl }
+outcome-showing size v good (done did) =
+    let d = virtual (did .state) in
+    let g = policy (v .frame) d in
+    record {
+      session = refl;
+      lent = ap (λ t. lentOf t (did .state) g) (view-size size v good (picture v) (length-window _ _));
+      terminal = repainted (v .frame .h) (v .frame .w) (picture v) (window g d) (length-window _ _) (length-window g d);
+    }
+
+-- One key: from a bench that shows a good view to one that shows the view after the key, which is good again.
+module _ (size : ℕ) (k : Key) (v : View) (good : Good size v) where
+  abbrev next : View
+  next = looked v (key size quarter k (v .plain))
+
+  pub key-good : Good size next
+  key-good = looked-good size k v good (key size quarter k (v .plain)) refl
+
+  pub key-showing : (at : Bench) → Showing size v at → Showing size next (struck k at)
+  unfolding struck
+  key-showing at shows =
+      let o = ap₂ (λ s b. keyed s k b) (shows .session) (shows .lent) ∙ view-keyed size v good (picture v) (length-window _ _) k in
+      subst (Showing size next) (sym (ap₂ given o (shows .terminal))) (outcome-showing size v good (key size quarter k (v .plain)))
+
+-- Any list of keys, from any good view that the bench shows.
+pub keys-good : (size : ℕ) (ks : List Key) (v : View) → Good size v → Good size (viewed size ks v)
+unfolding viewed
+keys-good size [] v good = good
+keys-good size (k ∷ ks) v good = keys-good size ks _ (key-good size k v good)
+
+pub keys-showing : (size : ℕ) (ks : List Key) (v : View) (at : Bench) → Good size v → Showing size v at
+    → Showing size (viewed size ks v) (typed ks at)
+unfolding viewed typed
+keys-showing size [] v at good shows = shows
+keys-showing size (k ∷ ks) v at good shows =
+    keys-showing size ks _ (struck k at) (key-good size k v good) (key-showing size k v good at shows)
+
+-- The view's plain state is the plain editor's after the same keys.
+pub viewed-plain : (size : ℕ) (ks : List Key) (v : View) → viewed size ks v .plain ≡ keys size quarter ks (v .plain)
+unfolding viewed keys
+viewed-plain size [] v = refl
+viewed-plain size (k ∷ ks) v = viewed-plain size ks (looked v o) ∙ ap (keys size quarter ks) (looked-after v o)
+  where
+    o : Outcome
+    o = key size quarter k (v .plain)
+
+-- After a good open, any list of keys.
+module _ (n H W : ℕ) (b : Lent) (accepts : opened n H W b .answer .code ≡ 0) where
+  opening-showing : Showing (T (b .stores)) (openingView n H W b) (openedBench n H W b)
+  unfolding openedText
+  opening-showing =
+      let done-so = opening-done n H W b accepts in
+      record {
+        session = ap (λ o. o .session) done-so;
+        lent = ap (λ o. o .lent) done-so;
+        terminal = ap (λ o. o .lent .screen) done-so;
+      }
+
+  -- The terminal shows the window of the plain document after the same keys.
+  pub demand-three : (ks : List Key)
+      → (typed ks (openedBench n H W b) .terminal ≡ picture (viewed (T (b .stores)) ks (openingView n H W b)))
+      × (viewed (T (b .stores)) ks (openingView n H W b) .plain ≡ keys (T (b .stores)) quarter ks (opening (take n (b .stores .text))))
+  demand-three ks = (
+    keys-showing (T (b .stores)) ks (openingView n H W b) (openedBench n H W b) (opening-view n H W b accepts) opening-showing .terminal,
+    viewed-plain (T (b .stores)) ks (openingView n H W b),
+  )
+
+  -- All that it shows is printable.
+  pub terminal-printable : (ks : List Key) → every printable (typed ks (openedBench n H W b) .terminal) ≡ true
+  terminal-printable ks =
+      ap (every printable) (demand-three ks .0)
+      ∙ picture-printable (T (b .stores)) _ (keys-good (T (b .stores)) ks (openingView n H W b) (opening-view n H W b accepts))
+
+-- On any session, whatever the lent screen shows: the named rows are the shortest run that covers every changed row.
+module _ (s : Session) (k : Key) (b : Lent) (fit : tabled (s .frame .h) (s .frame .w) b ≡ true) (ok : isSession s (b .stores) ≡ true) where
+  outcome-names : (o : Outcome)
+      → Shortest (s .frame .h) (s .frame .w) (b .screen) (finished s b o .lent .screen) (finished s b o .answer .first) (finished s b o .answer .last)
+  unfolding finished shown policy
+  outcome-names (refused n) = unchanged-shortest _ _ _ _ refl
+  outcome-names (done did) = named-rows _ _ _ _ (tabled-facts _ _ b fit .long) (length-window _ _)
+
+  pub key-names :
+      Shortest (s .frame .h) (s .frame .w) (b .screen) (keyed s k b .lent .screen) (keyed s k b .answer .first) (keyed s k b .answer .last)
+  key-names =
+      subst⁻¹ (λ o. Shortest (s .frame .h) (s .frame .w) (b .screen) (o .lent .screen) (o .answer .first) (o .answer .last))
+      (session-keyed s k b fit ok) (outcome-names (key (T (b .stores)) quarter k (held s (b .stores))))

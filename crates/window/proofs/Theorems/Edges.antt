@@ -2,12 +2,12 @@
 use mathlib.Core.Path.{_≡_, refl}
 use mathlib.Core.Bool.{true}
 use Rattle.gap.specs.Sequence.{every, sameBytes, begins, part, zeros, counted}
-use Rattle.gap.specs.Doc.{move, delete, times, passed, splice}
+use Rattle.gap.specs.Doc.{move, delete, times, passed, removed, splice}
 use Rattle.gap.specs.Nearest.{nearest, distance}
 use Rattle.gap.specs.Lines.{newlines, sinceAfter, lines}
 use Rattle.gap.specs.Layout.{gapped, paired, ungap, unpair, soundGap, soundPair}
 use Rattle.editor.specs.Places.{lineBeginning, lineEnding, word, documentEnd, isAt}
-use Rattle.editor.specs.Keys.{soundKey, inserted, removed, carried, function, recalled, onSide, quoted, withPattern, searched, found, withReplacement, exchanged, substituted, replaced, pressed, fits, bounded, key}
+use Rattle.editor.specs.Keys.{soundKey, inserted, carried, function, recalled, onSide, quoted, withPattern, searched, found, withReplacement, exchanged, substituted, replaced, pressed, fits, bounded, key}
 use Rattle.editor.specs.Bytes.{quarter, sized, plainOf, lengthsOf, storesOf, editorOk}
 use Rattle.window.specs.Window.{virtualIn, rowCells, joined, window, visible, policy}
 use Rattle.window.specs.Rows.{firstRow, lastRow}

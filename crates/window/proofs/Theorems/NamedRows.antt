@@ -24,7 +24,7 @@ pub record Shortest (H W : ℕ) (old new : List ℕ) (first last : ℕ) : Type 0
   pub shortest : old ≢ new → (a b : ℕ) → Covers H W old new a b → (a ≤ first) × (last ≤ b)
 
 module _ (H W : ℕ) (old new : List ℕ) where
-  unchanged-shortest : old ≡ new → Shortest H W old new 0 0
+  pub unchanged-shortest : old ≡ new → Shortest H W old new 0 0
   unchanged-shortest same =
       record {
         no-first = (λ _. same, λ _. refl);

@@ -1,1 +1,217 @@
--- To come.
+-- Refusals: each number exactly when document 01's table says, in its order, and what a refused call leaves.
+use mathlib.Core.Path.{_≡_, refl, sym, ap, _∙_}
+use mathlib.Core.Logic.{_↔_, ⊎-elim}
+use mathlib.Core.Bool.{Bool, true, false, not, cond, false≢true}
+use mathlib.Core.List.{List, [], _∷_}
+use Prim.Native.Nat.{ℕ, _+_, _≤_, _<_, zero-le}
+use native.Mathlib.Omega.{arith}
+use lib.Dec.{leb}
+use lib.ListN.{length, take, getD, length-take}
+use lib.Seq.{length-take-le, getD-take}
+use borrow.Author.Tests.{leb-true, not-true, not-false}
+use Rattle.gap.specs.declared.Search.{Search}
+use Rattle.gap.specs.declared.Search.the-variants.{Reached, Nowhere}
+use Rattle.gap.specs.Sequence.{every}
+use Rattle.gap.specs.Layout.{allowed}
+use Rattle.gap.proofs.Laws.Tests.{decided, clash}
+use Rattle.gap.proofs.Laws.Sequence.{every-at, at-every}
+use Rattle.gap.proofs.Laws.Nearest.{Least, reached-least, nowhere-none}
+use Rattle.editor.specs.declared.Key.{Key}
+use Rattle.editor.specs.Plain.{Plain, Did, refused, done, SIZE, LONG, TEXT, SESSION, KEY, FULL}
+use Rattle.editor.specs.Keys.{soundKey, pressed, fits, bounded, key}
+use Rattle.editor.specs.Bytes.{quarter}
+use Rattle.window.specs.Words.{Session}
+use Rattle.window.specs.Core.{Lent, Called, T, tabled, isSession, held, unopened, openedText, badByte, unlessBad, opened, turnedDown, shown, finished, keyed}
+use Rattle.window.proofs.Laws.Order.{Check, check, firstFailed, Passing, exactly, accepted-exactly}
+
+-- ---- opening
+
+abbrev none : Search → Bool
+none (Reached i) = false
+none Nowhere = true
+
+-- No bad byte is found exactly when each of the first n bytes is allowed.
+no-bad-byte : (n : ℕ) (text : List ℕ) → n ≤ length text → none (badByte n text) ≡ every allowed (take n text)
+no-bad-byte n text h = go (badByte n text) refl
+  where
+    bytes : length (take n text) ≡ n
+    bytes = length-take-le n text h
+
+    go : (s : Search) → badByte n text ≡ s → none s ≡ every allowed (take n text)
+    go (Reached i) e =
+        let least = reached-least _ n 0 i e in
+        let below : i < n = omega (arith, least .within) in
+        let short : i < length (take n text) = omega (arith, bytes) in
+        ⊎-elim
+        (λ sound.
+        clash
+        (sym (ap allowed (getD-take n text i 0 below)) ∙ every-at allowed (take n text) i sound short)
+        (not-true _ (least .passes)))
+        (λ bad. sym bad)
+        (decided (every allowed (take n text)))
+    go Nowhere e =
+        sym
+        (at-every allowed (take n text)
+        (λ i short.
+        let below : i < n = omega (arith, bytes) in
+        let high : i < 0 + n = omega arith in
+        ap allowed (getD-take n text i 0 below) ∙ not-false _ (nowhere-none _ n 0 e i zero-le high)))
+
+-- The checks of opening, in order.
+abbrev openingChecks : ℕ → ℕ → ℕ → Lent → List Check
+openingChecks n H W b =
+    check SIZE (tabled H W b) ∷ check LONG (leb n (T (b .stores))) ∷ check TEXT (every allowed (take n (b .stores .text))) ∷ []
+
+-- The last check counts only where the one before it passes.
+last-check : (t u v w : Bool) → (u ≡ true → v ≡ w)
+    → firstFailed (check SIZE t ∷ check LONG u ∷ check TEXT v ∷ []) ≡ firstFailed (check SIZE t ∷ check LONG u ∷ check TEXT w ∷ [])
+unfolding firstFailed
+last-check false u v w e = refl
+last-check true false v w e = refl
+last-check true true v w e = ap (λ x. firstFailed (check TEXT x ∷ [])) (e refl)
+
+module _ (n H W : ℕ) (b : Lent) where
+  -- What opening answers, by its three tests.
+  choice : Bool → Bool → Search → Called
+  choice t u s = cond t (cond u (unlessBad s b (openedText n H W b)) (unopened b LONG 0)) (unopened b SIZE 0)
+
+  code-of : (t u : Bool) (s : Search)
+      → choice t u s .answer .code ≡ firstFailed (check SIZE t ∷ check LONG u ∷ check TEXT (none s) ∷ [])
+  unfolding choice openedText firstFailed
+  code-of false u s = refl
+  code-of true false s = refl
+  code-of true true (Reached i) = refl
+  code-of true true Nowhere = refl
+
+  pub opening-code : opened n H W b .answer .code ≡ firstFailed (openingChecks n H W b)
+  unfolding opened choice
+  opening-code =
+      code-of (tabled H W b) (leb n (T (b .stores))) (badByte n (b .stores .text))
+      ∙ last-check _ _ _ _ (λ e. no-bad-byte n (b .stores .text) (leb-true n (T (b .stores)) e))
+
+  -- 01, refusals: opening checks SIZE, LONG, TEXT; each number is given exactly when its check is the first to fail.
+  pub opening-size : (opened n H W b .answer .code ≡ SIZE) ↔ (Passing [] × (tabled H W b ≡ false))
+  opening-size = rw opening-code (exactly [] SIZE _ _ refl refl)
+
+  pub opening-long : (opened n H W b .answer .code ≡ LONG) ↔ (Passing (check SIZE (tabled H W b) ∷ []) × (leb n (T (b .stores)) ≡ false))
+  opening-long = rw opening-code (exactly (check SIZE _ ∷ []) LONG _ _ refl refl)
+
+  pub opening-text : (opened n H W b .answer .code ≡ TEXT)
+      ↔ (Passing (check SIZE (tabled H W b) ∷ check LONG (leb n (T (b .stores))) ∷ []) × (every allowed (take n (b .stores .text)) ≡ false))
+  opening-text = rw opening-code (exactly (check SIZE _ ∷ check LONG _ ∷ []) TEXT _ _ refl refl)
+
+  pub opening-accepted : (opened n H W b .answer .code ≡ 0) ↔ Passing (openingChecks n H W b)
+  opening-accepted = rw opening-code (accepted-exactly (openingChecks n H W b) refl)
+
+  accepts : (t u : Bool) (s : Search) → choice t u s .answer .code ≡ 0 → choice t u s ≡ openedText n H W b
+  unfolding choice
+  accepts false u s e = absurd (omega (arith, e))
+  accepts true false s e = absurd (omega (arith, e))
+  accepts true true (Reached i) e = absurd (omega (arith, e))
+  accepts true true Nowhere e = refl
+
+  pub opening-done : opened n H W b .answer .code ≡ 0 → opened n H W b ≡ openedText n H W b
+  unfolding opened choice
+  opening-done e = accepts (tabled H W b) (leb n (T (b .stores))) (badByte n (b .stores .text)) e
+
+  -- A refused opening returns a record of zeros in mode MAIN and leaves all four stores; steps, bell, rows and cursor are 0.
+  leaves : (t u : Bool) (s : Search) → (choice t u s .answer .code ≡ 0 → ⊥)
+      → choice t u s ≡ unopened b (choice t u s .answer .code) (choice t u s .answer .place)
+  unfolding choice openedText
+  leaves false u s bad = refl
+  leaves true false s bad = refl
+  leaves true true (Reached i) bad = refl
+  leaves true true Nowhere bad = absurd (bad refl)
+
+  pub opening-leaves : (opened n H W b .answer .code ≡ 0 → ⊥)
+      → opened n H W b ≡ unopened b (opened n H W b .answer .code) (opened n H W b .answer .place)
+  unfolding opened choice
+  opening-leaves bad = leaves (tabled H W b) (leb n (T (b .stores))) (badByte n (b .stores .text)) bad
+
+  -- Place is the first index whose byte is not allowed, for TEXT, and 0 otherwise.
+  places : (t u : Bool) (s : Search) → choice t u s .answer .code ≡ TEXT → s ≡ Reached (choice t u s .answer .place)
+  unfolding choice openedText
+  places false u s e = absurd (omega (arith, e))
+  places true false s e = absurd (omega (arith, e))
+  places true true (Reached i) e = refl
+  places true true Nowhere e = absurd (omega (arith, e))
+
+  pub opening-place : opened n H W b .answer .code ≡ TEXT
+      → Least (λ i. not (allowed (getD (b .stores .text) i 0))) n 0 (opened n H W b .answer .place)
+  unfolding opened choice
+  opening-place e = reached-least _ n 0 _ (places (tabled H W b) (leb n (T (b .stores))) (badByte n (b .stores .text)) e)
+
+  no-place : (t u : Bool) (s : Search) → (choice t u s .answer .code ≡ TEXT → ⊥) → choice t u s .answer .place ≡ 0
+  unfolding choice openedText
+  no-place false u s other = refl
+  no-place true false s other = refl
+  no-place true true (Reached i) other = absurd (other refl)
+  no-place true true Nowhere other = refl
+
+  pub opening-no-place : (opened n H W b .answer .code ≡ TEXT → ⊥) → opened n H W b .answer .place ≡ 0
+  unfolding opened choice
+  opening-no-place other = no-place (tabled H W b) (leb n (T (b .stores))) (badByte n (b .stores .text)) other
+
+-- ---- a key
+
+-- The checks of a key, in order; FULL is about the finished texts.
+abbrev keyChecks : Session → Key → Lent → List Check
+keyChecks s k b =
+    check SIZE (tabled (s .frame .h) (s .frame .w) b)
+    ∷ check SESSION (isSession s (b .stores))
+    ∷ check KEY (soundKey k)
+    ∷ check FULL (fits (T (b .stores)) quarter (pressed k (held s (b .stores)) .state))
+    ∷ []
+
+module _ (s : Session) (k : Key) (b : Lent) where
+  decision : (t u v w : Bool) → Did Plain → Called
+  decision t u v w did =
+      cond t (cond u (finished s b (cond v (cond w (done did) (refused FULL)) (refused KEY))) (turnedDown s b SESSION)) (turnedDown s b SIZE)
+
+  key-code-of : (t u v w : Bool) (did : Did Plain)
+      → decision t u v w did .answer .code ≡ firstFailed (check SIZE t ∷ check SESSION u ∷ check KEY v ∷ check FULL w ∷ [])
+  unfolding decision finished shown firstFailed
+  key-code-of false u v w did = refl
+  key-code-of true false v w did = refl
+  key-code-of true true false w did = refl
+  key-code-of true true true false did = refl
+  key-code-of true true true true did = refl
+
+  pub key-code : keyed s k b .answer .code ≡ firstFailed (keyChecks s k b)
+  unfolding keyed key bounded decision
+  key-code = key-code-of _ _ _ _ (pressed k (held s (b .stores)))
+
+  -- 01, refusals: a key checks SIZE, SESSION, KEY, FULL; each number is given exactly when its check is the first to fail.
+  pub key-size : (keyed s k b .answer .code ≡ SIZE) ↔ (Passing [] × (tabled (s .frame .h) (s .frame .w) b ≡ false))
+  key-size = rw key-code (exactly [] SIZE _ _ refl refl)
+
+  pub key-session : (keyed s k b .answer .code ≡ SESSION)
+      ↔ (Passing (check SIZE (tabled (s .frame .h) (s .frame .w) b) ∷ []) × (isSession s (b .stores) ≡ false))
+  key-session = rw key-code (exactly (check SIZE _ ∷ []) SESSION _ _ refl refl)
+
+  pub key-key : (keyed s k b .answer .code ≡ KEY)
+      ↔ (Passing (check SIZE (tabled (s .frame .h) (s .frame .w) b) ∷ check SESSION (isSession s (b .stores)) ∷ []) × (soundKey k ≡ false))
+  key-key = rw key-code (exactly (check SIZE _ ∷ check SESSION _ ∷ []) KEY _ _ refl refl)
+
+  pub key-full : (keyed s k b .answer .code ≡ FULL)
+      ↔ (Passing (check SIZE (tabled (s .frame .h) (s .frame .w) b) ∷ check SESSION (isSession s (b .stores)) ∷ check KEY (soundKey k) ∷ [])
+      × (fits (T (b .stores)) quarter (pressed k (held s (b .stores)) .state) ≡ false))
+  key-full = rw key-code (exactly (check SIZE _ ∷ check SESSION _ ∷ check KEY _ ∷ []) FULL _ _ refl refl)
+
+  pub key-accepted : (keyed s k b .answer .code ≡ 0) ↔ Passing (keyChecks s k b)
+  key-accepted = rw key-code (accepted-exactly (keyChecks s k b) refl)
+
+  -- A refused key returns the record it was given and leaves all four stores; place, steps, bell, rows and cursor are 0.
+  decision-leaves : (t u v w : Bool) (did : Did Plain) → (decision t u v w did .answer .code ≡ 0 → ⊥)
+      → decision t u v w did ≡ turnedDown s b (decision t u v w did .answer .code)
+  unfolding decision finished shown
+  decision-leaves false u v w did bad = refl
+  decision-leaves true false v w did bad = refl
+  decision-leaves true true false w did bad = refl
+  decision-leaves true true true false did bad = refl
+  decision-leaves true true true true did bad = absurd (bad refl)
+
+  pub key-leaves : (keyed s k b .answer .code ≡ 0 → ⊥) → keyed s k b ≡ turnedDown s b (keyed s k b .answer .code)
+  unfolding keyed key bounded decision
+  key-leaves bad =
+      decision-leaves (tabled (s .frame .h) (s .frame .w) b) (isSession s (b .stores)) (soundKey k) (fits (T (b .stores)) quarter (pressed k (held s (b .stores)) .state)) (pressed k (held s (b .stores))) bad
