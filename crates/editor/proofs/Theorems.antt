@@ -1,4 +1,5 @@
 pub mod Layouts
+pub mod Places
 pub mod Sessions
 pub mod Refusals
 pub mod Recall
