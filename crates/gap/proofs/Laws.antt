@@ -4,3 +4,9 @@ pub mod Nearest
 pub mod Doc
 pub mod Lines
 pub mod Layout
+pub mod Runs
+pub mod Stores
+pub mod Scans
+pub mod StoreTests
+pub mod LineScans
+pub mod Moves

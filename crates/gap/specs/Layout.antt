@@ -47,3 +47,8 @@ soundPair l r s = leb (l + r) (length s) && (every allowed (content (unpair l r 
 pub record IsGap (l r : ℕ) (s : List ℕ) : Type 0 where
   pub fits : l + r ≤ length s
   pub holds : gapped (length s) (ungap l r s) ≡ s
+
+-- The same of a pair store.
+pub record IsPair (l r : ℕ) (s : List ℕ) : Type 0 where
+  pub fits : l + r ≤ length s
+  pub holds : paired (length s) (unpair l r s) ≡ s

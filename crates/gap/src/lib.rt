@@ -1,4 +1,8 @@
 // The gap layer: texts with a cursor, and the bytes that hold them.
+pub mod lines;
+pub mod runs;
+pub mod sound;
+pub mod texts;
 
 // Which way along a text.
 pub enum Direction {

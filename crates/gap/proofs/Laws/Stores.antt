@@ -1,0 +1,215 @@
+-- What a patched gap store or a filled pair store is as an encoding, over any length.
+use mathlib.Core.Path.{_≡_, refl, sym, ap, _∙_}
+use mathlib.Core.List.{List, [], _∷_, _++_, append-assoc, append-nil}
+use Prim.Native.Nat.{ℕ, _+_, _-_, _≤_, _<_}
+use native.Mathlib.Nat.{sub-zero, add-zero, zero-add}
+use native.Mathlib.Omega.{arith}
+use lib.ListN.{length, take, drop, set, length-append, length-drop, take-append-drop, replicate-append-replicate}
+use lib.Seq.{length-take-le, take-length, take-at, drop-at, drop-drop}
+use borrow.Rule.Slice.PartMut.{midOf}
+use Rattle.gap.specs.declared.Direction.{Direction}
+use Rattle.gap.specs.declared.Direction.the-variants.{Left, Right}
+use Rattle.gap.specs.Sequence.{part, patch, zeros}
+use Rattle.gap.specs.Doc.{Doc, room, delete, times, passed, removed, splice}
+use Rattle.gap.specs.Layout.{gapped, paired, ungap, unpair, IsGap}
+use Rattle.gap.proofs.Laws.Sequence.{length-part, length-zeros}
+use Rattle.gap.proofs.Laws.Doc.{same-texts, deletions-left, deletions-right, insertions}
+use Rattle.gap.proofs.Laws.Runs.{part-middle, patch-none, patch-one, patch-middle, part-lent}
+use Rattle.gap.proofs.Laws.Runs.{tailOf, putTail, tail-lent, tail-cleared}
+
+zeros-both : (n m : ℕ) → zeros n ++ zeros m ≡ zeros (n + m)
+unfolding zeros
+zeros-both n m = replicate-append-replicate n m 0
+
+-- Two stores that differ in one run of k bytes: at the place, the one has the run and the other has zeros.
+pub record Filled (place k : ℕ) (run full vacant : List ℕ) : Type 0 where
+  pub before : List ℕ
+  pub behind : List ℕ
+  pub stands : length before ≡ place
+  pub size : length run ≡ k
+  pub full-is : full ≡ before ++ (run ++ behind)
+  pub vacant-is : vacant ≡ before ++ (zeros k ++ behind)
+
+-- Clearing leads from the one to the other, copying the run leads back, and the run is the part that stands there.
+module _ {place k : ℕ} {run full vacant : List ℕ} (f : Filled place k run full vacant) where
+  zeros-size : length run ≡ length (zeros k)
+  zeros-size = f .size ∙ sym (length-zeros k)
+
+  pub vacated : patch place (zeros k) full ≡ vacant
+  vacated = rw (f .full-is, f .vacant-is) (patch-middle (f .before) run (f .behind) (zeros k) place (f .stands) zeros-size)
+
+  pub placed : patch place run vacant ≡ full
+  placed = rw (f .full-is, f .vacant-is) (patch-middle (f .before) (zeros k) (f .behind) run place (f .stands) (sym zeros-size))
+
+  pub taken : part place k full ≡ run
+  taken = rw (f .full-is) (part-middle (f .before) run (f .behind) place k (f .stands) (f .size))
+
+-- A gap store whose left text, or whose right text, has a run more on the side of the gap.
+module _ (n k place : ℕ) (x y z : List ℕ) (size : length y ≡ k) (fits : length x + (k + length z) ≤ n) where
+  between : ℕ
+  between = n - (length x + (k + length z))
+
+  pub fill-left : length x ≡ place → Filled place k y (gapped n (record { l = x ++ y; r = z })) (gapped n (record { l = x; r = z }))
+  unfolding gapped between
+  fill-left at = record {
+    before = x;
+    behind = zeros between ++ z;
+    stands = at;
+    size = size;
+    full-is =
+        let e : n - (length (x ++ y) + length z) ≡ between = simp length-append (omega arith) in
+        rw (e, append-assoc);
+    vacant-is =
+        let e : n - (length x + length z) ≡ k + between = omega arith in
+        rw (e, ← zeros-both, append-assoc);
+  }
+
+  pub fill-right : place + (k + length z) ≡ n
+      → Filled place k y (gapped n (record { l = x; r = y ++ z })) (gapped n (record { l = x; r = z }))
+  unfolding gapped between
+  fill-right at = record {
+    before = x ++ zeros between;
+    behind = z;
+    stands = simp (length-append, length-zeros) (omega arith);
+    size = size;
+    full-is =
+        let e : n - (length x + length (y ++ z)) ≡ between = simp length-append (omega arith) in
+        rw (e, append-assoc);
+    vacant-is =
+        let e : n - (length x + length z) ≡ between + k = omega arith in
+        rw (e, ← zeros-both) (simp append-assoc);
+  }
+
+-- The bytes that k deletions take away from a store of n bytes that holds l and r of them: on which side there must be k, where
+-- they begin and where they end; and the part that is lent of them.
+abbrev pub side : Direction → ℕ → ℕ → ℕ
+side Left l r = l
+side Right l r = r
+
+abbrev pub from : Direction → ℕ → ℕ → ℕ → ℕ → ℕ
+from Left n l r k = l - k
+from Right n l r k = n - r
+
+abbrev pub until : Direction → ℕ → ℕ → ℕ → ℕ → ℕ
+until Left n l r k = l
+until Right n l r k = n - r + k
+
+abbrev pub lent : Direction → ℕ → ℕ → ℕ → List ℕ → List ℕ
+lent way l r k s = midOf (from way (length s) l r k) (until way (length s) l r k - from way (length s) l r k) s
+
+stretch : (way : Direction) (n l r k : ℕ) → k ≤ side way l r → until way n l r k - from way n l r k ≡ k
+stretch Left n l r k h = omega arith
+stretch Right n l r k h = omega arith
+
+module _ (n : ℕ) (d : Doc) (fits : length (d .l) + length (d .r) ≤ n) where
+  -- k deletions vacate what they take away.
+  deleted : (way : Direction) (k : ℕ) → k ≤ room way d
+      → Filled (from way n (length (d .l)) (length (d .r)) k) k (passed way k d) (gapped n d) (gapped n (times (delete way) k d))
+  unfolding passed splice
+  deleted Left k h =
+      let kept : ℕ = length (d .l) - k in
+      let x : List ℕ = take kept (d .l) in
+      let whole : record { l = x ++ drop kept (d .l); r = d .r } ≡ d = same-texts (take-append-drop kept (d .l)) refl in
+      let less : times (delete Left) k d ≡ record { l = x; r = d .r } = deletions-left k d ∙ same-texts (append-nil x) refl in
+      let left : length x ≡ kept = length-take-le kept (d .l) (omega arith) in
+      let gone : length (drop kept (d .l)) ≡ k = length-drop kept (d .l) ∙ omega arith in
+      rw less (rw whole at (fill-left n k kept x (drop kept (d .l)) (d .r) gone (omega arith) left))
+  deleted Right k h =
+      let z : List ℕ = drop k (d .r) in
+      let whole : record { l = d .l; r = take k (d .r) ++ z } ≡ d = same-texts refl (take-append-drop k (d .r)) in
+      let all : take (length (d .l) - 0) (d .l) ++ [] ≡ d .l = rw (append-nil, sub-zero, take-length) in
+      let less : times (delete Right) k d ≡ record { l = d .l; r = z } = deletions-right k d ∙ same-texts all refl in
+      let left : length z ≡ length (d .r) - k = length-drop k (d .r) in
+      let gone : length (take k (d .r)) ≡ k = length-take-le k (d .r) h in
+      rw less (rw whole at (fill-right n k (n - length (d .r)) (d .l) (take k (d .r)) z gone (omega arith) (omega arith)))
+
+  -- A pair placed around the cursor fills places that were vacant.
+  inserted : (p : Doc) → length (d .l) + length (d .r) + (length (p .l) + length (p .r)) ≤ n
+      → patch (n - length (d .r) - length (p .r)) (p .r) (patch (length (d .l)) (p .l) (gapped n d)) ≡ gapped n (splice 0 0 p d)
+  inserted p h =
+      let at : ℕ = n - length (d .r) - length (p .r) in
+      ap (patch at (p .r)) (placed (fill-left n _ (length (d .l)) (d .l) (p .l) (d .r) refl (omega arith) refl))
+      ∙ placed (fill-right n _ at (d .l ++ p .l) (p .r) (d .r) refl (rw length-append (omega arith)) (omega arith))
+      ∙ ap (gapped n) (sym (insertions p d))
+
+-- A run that is all that a pair store holds, as the one text of the pair or as the other.
+alone : (way : Direction) (k : ℕ) (d : Doc) (m : ℕ)
+    → passed way k d ++ zeros (m - length (passed way k d)) ≡ paired m (removed way k d)
+unfolding paired removed
+alone Left k d m = rw add-zero
+alone Right k d m = rw zero-add
+
+-- The store of a routine, which holds texts of l and r bytes.
+module _ {l r : ℕ} {s : List ℕ} (gap : IsGap l r s) where
+  pub length-left : length (ungap l r s .l) ≡ l
+  unfolding ungap
+  length-left = length-take-le l s (omega arith)
+
+  pub length-right : length (ungap l r s .r) ≡ r
+  unfolding ungap
+  length-right = rw length-drop (omega arith)
+
+  sizes : length (ungap l r s .l) + length (ungap l r s .r) ≤ length s
+  sizes = rw (length-left, length-right) (gap .fits)
+
+  enough : (way : Direction) (k : ℕ) → k ≤ side way l r → k ≤ room way (ungap l r s)
+  enough Left k h = rw length-left h
+  enough Right k h = rw length-right h
+
+  module _ (way : Direction) (k : ℕ) (h : k ≤ side way l r) where
+    gap-deleted : Filled (from way (length s) l r k) k (passed way k (ungap l r s)) s
+        (gapped (length s) (times (delete way) k (ungap l r s)))
+    gap-deleted = rw (length-left, length-right, gap .holds) at (deleted (length s) (ungap l r s) sizes way k (enough way k h))
+
+    pub deletes : patch (from way (length s) l r k) (zeros k) s ≡ gapped (length s) (times (delete way) k (ungap l r s))
+    deletes = vacated gap-deleted
+
+    pub removes : (m : ℕ) → lent way l r k s ++ zeros (m - length (lent way l r k s)) ≡ paired m (removed way k (ungap l r s))
+    unfolding part
+    removes m = rw (stretch way (length s) l r k h, taken gap-deleted) (alone way k (ungap l r s) m)
+
+  gap-inserted : (p : Doc) → l + r + (length (p .l) + length (p .r)) ≤ length s
+      → patch (length s - r - length (p .r)) (p .r) (patch l (p .l) s) ≡ gapped (length s) (splice 0 0 p (ungap l r s))
+  gap-inserted p h =
+      rw (length-left, length-right, gap .holds) at (inserted (length s) (ungap l r s) sizes p (rw (length-left, length-right) h))
+
+  pub inserts : (b : ℕ) → l + r < length s
+      → set s l b ≡ gapped (length s) (splice 0 0 (record { l = b ∷ []; r = [] }) (ungap l r s))
+  inserts b h =
+      patch-one s l b (omega arith) ∙ sym (patch-none _ (length s - r - 0)) ∙ gap-inserted (record { l = b ∷ []; r = [] }) (omega arith)
+
+  pub places : (x y : ℕ) (pair : List ℕ) → l + r + (x + y) ≤ length s → x + y ≤ length pair
+      → patch (length s - r - y) (midOf x (x + y - x) pair) (patch l (take x pair) s)
+      ≡ gapped (length s) (splice 0 0 (unpair x y pair) (ungap l r s))
+  unfolding unpair part
+  places x y pair h within =
+      let first : length (take x pair) ≡ x = length-take-le x pair (omega arith) in
+      let second : length (take y (drop x pair)) ≡ y = length-part x y pair within in
+      rw (part-lent x y pair within) (rw second at (gap-inserted (unpair x y pair) (rw (first, second) h)))
+
+-- A pair store gets the one text, then the other behind it, and is cleared from there on.
+module _ (l r : ℕ) (p : Doc) (left : length (p .l) ≡ l) (right : length (p .r) ≡ r) (old front both t : List ℕ) (fits : l + r ≤ length old)
+    (first : front ≡ p .l ++ drop (length (p .l)) old) (second : both ≡ patch l (p .r) front) where
+  texts-first : both ≡ (p .l ++ p .r) ++ drop (l + r) old
+  unfolding patch
+  texts-first =
+      let rest : List ℕ = drop l old in
+      rw (second, first, left, take-at (p .l) rest l left, drop-at (p .l) rest l left, right, drop-drop, append-assoc)
+
+  pair-held : t ≡ zeros (length (tailOf (l + r) both)) → putTail (l + r) both t ≡ paired (length old) p
+  unfolding paired
+  pair-held cleared =
+      let size : length (p .l ++ p .r) ≡ l + r = rw (length-append, left, right) in
+      let same : length both ≡ length old = rw (texts-first, length-append, size, length-drop) (omega arith) in
+      tail-cleared (l + r) both t cleared
+      ∙ rw (same, texts-first, take-at (p .l ++ p .r) _ (l + r) size, left, right, append-assoc)
+
+-- The texts of a gap store, handed over in that way.
+pub hands-over : (l r : ℕ) (s old front both t : List ℕ) → l + r ≤ length s → l + r ≤ length old
+    → front ≡ take l s ++ drop (length (take l s)) old → both ≡ patch l (tailOf (length s - r) s) front
+    → t ≡ zeros (length (tailOf (l + r) both)) → putTail (l + r) both t ≡ paired (length old) (ungap l r s)
+unfolding ungap
+hands-over l r s old front both t within fits first second cleared =
+    let left : length (take l s) ≡ l = length-take-le l s (omega arith) in
+    let right : length (drop (length s - r) s) ≡ r = length-drop (length s - r) s ∙ omega arith in
+    pair-held l r (ungap l r s) left right old front both t fits first (rw tail-lent at second) cleared

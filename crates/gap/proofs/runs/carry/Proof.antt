@@ -1,0 +1,69 @@
+-- `carry` patches twice: zeros where the block stood, and then the block, which was copied out before, where it goes.
+use mathlib.Core.Path.{sym, ap₂, _∙_}
+use native.Mathlib.Omega.{arith}
+use lib.Seq.{length-take-le}
+use borrow.Author.Needs.{needs}
+use Rattle.gap.specs.Sequence.{patch}
+use Rattle.gap.proofs.Laws.Runs.{part-copied}
+use Rattle.gap.proofs.runs.carry.Statement.{statement}
+use Rattle.gap.proofs.runs.carry.Tie as tie
+
+add-end : tie.Need-add-end
+add-end c = search needs
+
+slice-aggregate-copy-front : tie.Need-slice-aggregate-copy-front
+slice-aggregate-copy-front c = search needs
+
+sub-copy-front : tie.Need-sub-copy-front
+sub-copy-front c = search needs
+
+part-copy-front-start : tie.Need-part-copy-front-start
+part-copy-front-start c = search needs
+
+part-copy-front-end : tie.Need-part-copy-front-end
+part-copy-front-end c = search needs
+
+copy-front-requires : tie.Need-copy-front-requires
+copy-front-requires c κs = search needs
+
+vacate-requires : tie.Need-vacate-requires
+vacate-requires c κs = search needs
+
+array-share-prefix-block : tie.Need-array-share-prefix-block
+array-share-prefix-block c = search needs
+
+slice-aggregate-copy-at : tie.Need-slice-aggregate-copy-at
+slice-aggregate-copy-at c =
+    let copied = c .before .before .before .before .before .before .before in
+    sym (length-take-le _ _ (omega (arith, copied .copy-front .kept .0)))
+
+copy-at-requires : tie.Need-copy-at-requires
+copy-at-requires c κs = rw (sym (slice-aggregate-copy-at c)) (omega (arith, c .before .before .before .before .vacate .kept .0))
+
+same-length : tie.Need-same-length
+same-length c = search needs
+
+returns : tie.Need-returns
+returns c =
+    let cleared = c .before .before .before .before .before .before .before in
+    let copied = cleared .before .before .before in
+    let start = copied .before .before .before .before .before in
+    c .before .before .copy-at .ensures
+    ∙ ap₂ (patch _) (part-copied _ _ _ (start .pre .1 .0) _ _ (copied .copy-front .ensures)) (cleared .vacate .ensures)
+
+pub carry-spec : {M : Type 1} → statement M
+carry-spec =
+    tie.close
+    (tie.spec
+    add-end
+    slice-aggregate-copy-front
+    sub-copy-front
+    part-copy-front-start
+    part-copy-front-end
+    copy-front-requires
+    vacate-requires
+    array-share-prefix-block
+    slice-aggregate-copy-at
+    copy-at-requires
+    same-length
+    returns)

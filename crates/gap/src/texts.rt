@@ -1,0 +1,140 @@
+// Gap stores: moving the cursor, inserting, deleting into a pair store, and placing a pair into the text.
+use crate::runs::block_of;
+use crate::runs::carry;
+use crate::runs::clear;
+use crate::runs::copy_at;
+use crate::runs::copy_front;
+use crate::runs::hold;
+use crate::runs::vacate;
+ghost use mathlib.Core.Path.{_≡_};
+ghost use mathlib.Core.List.{[], _∷_};
+ghost use Prim.Native.Nat.{_+_, _≤_, _<_};
+ghost use lib.ListN.{length, take, getD};
+ghost use Rattle.gap.specs.declared.Direction.the-variants.{Left, Right};
+ghost use Rattle.gap.specs.Doc.{content, empty, move, delete, times, removed, splice};
+ghost use Rattle.gap.specs.Layout.{gapped, paired, ungap, unpair, IsGap};
+
+// The cursor goes d bytes left, block by block.
+pub fn move_left(s: &mut [u8], l: usize, r: usize, d: usize)
+    requires { ⌜ IsGap l r (now s) ⌝ }
+    requires { ⌜ d ≤ l ⌝ }
+    ensures { λ _. ⌜ now (s .exit) ≡ gapped (length (now (s .entry))) (times (move Left) d (ungap l r (now (s .entry)))) ⌝ }
+{
+    let mut from = l;
+    let mut to = s.len() - r;
+    let mut left = d;
+    while 0 < left {
+        let size = block_of(left);
+        from -= size;
+        to -= size;
+        left -= size;
+        carry(s, from, to, size);
+    }
+}
+
+// The cursor goes d bytes right, block by block.
+pub fn move_right(s: &mut [u8], l: usize, r: usize, d: usize)
+    requires { ⌜ IsGap l r (now s) ⌝ }
+    requires { ⌜ d ≤ r ⌝ }
+    ensures { λ _. ⌜ now (s .exit) ≡ gapped (length (now (s .entry))) (times (move Right) d (ungap l r (now (s .entry)))) ⌝ }
+{
+    let mut to = l;
+    let mut from = s.len() - r;
+    let mut left = d;
+    while 0 < left {
+        let size = block_of(left);
+        carry(s, from, to, size);
+        to += size;
+        from += size;
+        left -= size;
+    }
+}
+
+// A byte goes in left of the cursor.
+pub fn insert(s: &mut [u8], l: usize, r: usize, b: u8)
+    requires { ⌜ IsGap l r (now s) ⌝ }
+    requires { ⌜ l + r < length (now s) ⌝ }
+    ensures { λ _. ⌜ now (s .exit) ≡ gapped (length (now (s .entry))) (splice 0 0 (record { l = b ∷ []; r = [] }) (ungap l r (now (s .entry)))) ⌝ }
+{
+    s[l] = b;
+}
+
+// The d bytes left of the cursor go into the pair store, which then holds nothing else.
+pub fn delete_left(s: &mut [u8], l: usize, r: usize, d: usize, pair: &mut [u8])
+    requires { ⌜ IsGap l r (now s) ⌝ }
+    requires { ⌜ (d ≤ l) × (d ≤ length (now pair)) ⌝ }
+    ensures { λ _. ⌜ now (s .exit) ≡ gapped (length (now (s .entry))) (times (delete Left) d (ungap l r (now (s .entry)))) ⌝ }
+    ensures { λ _. ⌜ now (pair .exit) ≡ paired (length (now (pair .entry))) (removed Left d (ungap l r (now (s .entry)))) ⌝ }
+{
+    let at = l - d;
+    hold(pair, &s[at..l]);
+    vacate(s, at, d);
+}
+
+// The d bytes right of the cursor go into the pair store.
+pub fn delete_right(s: &mut [u8], l: usize, r: usize, d: usize, pair: &mut [u8])
+    requires { ⌜ IsGap l r (now s) ⌝ }
+    requires { ⌜ (d ≤ r) × (d ≤ length (now pair)) ⌝ }
+    ensures { λ _. ⌜ now (s .exit) ≡ gapped (length (now (s .entry))) (times (delete Right) d (ungap l r (now (s .entry)))) ⌝ }
+    ensures { λ _. ⌜ now (pair .exit) ≡ paired (length (now (pair .entry))) (removed Right d (ungap l r (now (s .entry)))) ⌝ }
+{
+    let at = s.len() - r;
+    let end = at + d;
+    hold(pair, &s[at..end]);
+    vacate(s, at, d);
+}
+
+// Both halves of a pair, x and y bytes long, go in around the cursor.
+pub fn place_pair(s: &mut [u8], l: usize, r: usize, pair: &[u8], x: usize, y: usize)
+    requires { ⌜ IsGap l r (now s) ⌝ }
+    requires { ⌜ (l + r + (x + y) ≤ length (now s)) × (x + y ≤ length (now pair)) ⌝ }
+    ensures { λ _. ⌜ now (s .exit) ≡ gapped (length (now (s .entry))) (splice 0 0 (unpair x y (now (pair .entry))) (ungap l r (now (s .entry)))) ⌝ }
+{
+    let end = x + y;
+    let at = s.len() - r - y;
+    copy_at(s, l, &pair[..x]);
+    copy_at(s, at, &pair[x..end]);
+}
+
+// The first d bytes right of the cursor are dropped.
+pub fn drop_right(s: &mut [u8], l: usize, r: usize, d: usize)
+    requires { ⌜ IsGap l r (now s) ⌝ }
+    requires { ⌜ d ≤ r ⌝ }
+    ensures { λ _. ⌜ now (s .exit) ≡ gapped (length (now (s .entry))) (splice 0 d empty (ungap l r (now (s .entry)))) ⌝ }
+{
+    let at = s.len() - r;
+    vacate(s, at, d);
+}
+
+// A gap store's two texts become all that a pair store holds.
+pub fn hand_over(s: &[u8], l: usize, r: usize, pair: &mut [u8])
+    requires { ⌜ (l + r ≤ length (now s)) × (l + r ≤ length (now pair)) ⌝ }
+    ensures { λ _. ⌜ now (pair .exit) ≡ paired (length (now (pair .entry))) (ungap l r (now (s .entry))) ⌝ }
+{
+    let back = s.len() - r;
+    let used = l + r;
+    copy_front(pair, &s[..l]);
+    copy_at(pair, l, &s[back..]);
+    clear(&mut pair[used..]);
+}
+
+// The first n bytes become the text right of the cursor, with nothing left of it; whatever stood behind them is cleared.
+pub fn open_text(s: &mut [u8], n: usize)
+    requires { ⌜ n ≤ length (now s) ⌝ }
+    ensures { λ _. ⌜ now (s .exit) ≡ gapped (length (now (s .entry))) (record { l = []; r = take n (now (s .entry)) }) ⌝ }
+{
+    clear(&mut s[n..]);
+    move_left(s, n, 0, n);
+}
+
+// Byte i of the text, counted from 0 over the gap.
+pub fn byte_at(s: &[u8], l: usize, r: usize, i: usize) -> u8
+    requires { ⌜ (l + r ≤ length (now s)) × (i < l + r) ⌝ }
+    ensures { λ b. ⌜ b ≡ getD (content (ungap l r (now (s .entry)))) i 0 ⌝ }
+{
+    if i < l {
+        return s[i];
+    }
+    let at = s.len() - r + (i - l);
+    s[at]
+}
