@@ -3,4 +3,13 @@ pub mod Quarters
 pub mod Session
 pub mod Outcomes
 pub mod Sides
+pub mod Turns
 pub mod States
+pub mod MatchScans
+pub mod Quotation
+pub mod Replies
+pub mod PlaceScans
+pub mod HandedOver
+pub mod Fitting
+pub mod FindReplace
+pub mod ReplaceRoom

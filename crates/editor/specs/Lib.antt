@@ -4,3 +4,4 @@ pub mod Places
 pub mod Plain
 pub mod Keys
 pub mod Bytes
+pub mod Promise

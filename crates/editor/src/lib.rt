@@ -1,4 +1,10 @@
 // The editor layer: keys on a document, a quotation and their recall texts, without a screen.
+pub mod finds;
+pub mod keys;
+pub mod places;
+pub mod sessions;
+pub mod sides;
+
 use gap::Direction;
 
 // What a function key does on its way to a place.
@@ -32,6 +38,16 @@ pub enum Key {
     Replace,
 }
 
+// The keys that act on one side, the document's or the quotation's.
+pub enum Edit {
+    Insert(u8),
+    Function(Action, Direction, Place),
+    Recall,
+}
+
+// The length of a quarter of the side store.
+pub const QUARTER: usize = 256;
+
 // The lengths of one side: a text left and right of its cursor, and both halves of its recall text.
 pub struct Sizes {
     pub l: usize,
@@ -49,4 +65,20 @@ pub struct Lengths {
     pub xr: usize,
     pub pl: usize,
     pub mode: Mode,
+}
+
+// What a key on one side answers: refused as full, or its steps, its bell and the sizes now.
+pub struct Turn {
+    pub full: bool,
+    pub steps: usize,
+    pub bell: bool,
+    pub sizes: Sizes,
+}
+
+// What the key call answers: 0 or a refusal's number, steps, bell and the lengths now.
+pub struct Reply {
+    pub code: usize,
+    pub steps: usize,
+    pub bell: bool,
+    pub lengths: Lengths,
 }

@@ -138,7 +138,7 @@ unfolding quoted
 quoted-sound T Q p sound =
     cleared-sound T Q (p .pattern) (p .replacement) (otherMode (p .mode)) p sound (sound .pattern) (sound .replacement)
 
-with-pattern-sound : (T Q : ℕ) (mode : Mode) (p : Plain) → SoundPlain T Q p → SoundPlain T Q (withPattern mode p)
+pub with-pattern-sound : (T Q : ℕ) (mode : Mode) (p : Plain) → SoundPlain T Q p → SoundPlain T Q (withPattern mode p)
 unfolding withPattern
 with-pattern-sound T Q Main p sound = sound
 with-pattern-sound T Q Quoted p sound =
@@ -146,7 +146,7 @@ with-pattern-sound T Q Quoted p sound =
     (left-holdable Q (content (p .quoted .text)) (content-fits Q (p .quoted .text) (sound .quotation)) (sound .quotation .bytes))
     (sound .replacement)
 
-searched-sound : (T Q : ℕ) (way : Direction) (p : Plain) → SoundPlain T Q p → SoundPlain T Q (searched way p .state)
+pub searched-sound : (T Q : ℕ) (way : Direction) (p : Plain) → SoundPlain T Q p → SoundPlain T Q (searched way p .state)
 unfolding searched
 searched-sound T Q way p sound =
     with-main-sound T Q _ p sound

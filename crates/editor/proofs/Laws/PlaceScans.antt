@@ -1,0 +1,210 @@
+-- Laws of places within one text, by the two bytes beside them, and of the distance to a place as a search through the text that lies
+-- in the direction.
+use mathlib.Core.Path.{_≡_, refl, sym, ap, ap₂, _∙_}
+use mathlib.Core.Logic.{⊎-elim}
+use mathlib.Core.Bool.{Bool, true, false, not, _&&_, cond, or-false}
+use mathlib.Core.List.{List, [], _∷_, _++_}
+use Prim.Native.Nat.{ℕ, zero, suc, _+_, _-_, _≤_, _<_}
+use native.Mathlib.Omega.{arith}
+use lib.Dec.{leb, ltb}
+use lib.ListN.{length, take, drop, getD, length-append, length-drop, drop-of-length-le}
+use lib.Seq.{take-suc, drop-cons, length-take-le, drop-append-add}
+use borrow.Author.Tests.{eq-eqb, ne-eqb, leb-true, leb-false, lt-ltb, le-ltb}
+use borrow.Rule.Slice.PartAt.{part-to-end}
+use Rattle.gap.specs.Sequence.{lastOf}
+use Rattle.gap.specs.Doc.{Doc, room, move, times}
+use Rattle.gap.specs.Nearest.{nearest, distance}
+use Rattle.gap.specs.Layout.{ungap}
+use Rattle.gap.proofs.Laws.Tests.{decided, or-right, cond-true, cond-false}
+use Rattle.gap.proofs.Laws.Doc.{back-append, moves-left, moves-right, room-moves}
+use Rattle.gap.proofs.Theorems.Distance.{distance-least, distance-nowhere}
+use Rattle.editor.specs.Words.{Direction, Left, Right, Search, Reached}
+use Rattle.editor.specs.Words.{Place, Character, Word, LineBeginning, LineEnding, Document}
+use Rattle.editor.specs.Places.{isNewline, blank, emptyOr, isEmpty, lineBeginning, lineEnding, word, documentEnd, isAt}
+use Rattle.editor.specs.Promise.{wholeOf}
+
+-- The cursor at place p of a text.
+abbrev pub cutAt : ℕ → List ℕ → Doc
+cutAt p t = record { l = take p t; r = drop p t }
+
+module _ (t : List ℕ) (p : ℕ) where
+  byte-before : 1 ≤ p → p ≤ length t → lastOf (take p t) ≡ getD t (p - 1) 0 ∷ []
+  byte-before above fits =
+      let same : p ≡ suc (p - 1) = omega arith in
+      ap (λ k. lastOf (take k t)) same ∙ rw (take-suc t (p - 1) 0 (omega arith)) (back-append (take (p - 1) t) _ 1 refl)
+
+  -- What a test says of the byte behind place p, or of nothing.
+  module _ (test : ℕ → Bool) where
+    at-last : length t ≤ p → true ≡ emptyOr test (drop p t)
+    at-last end = sym (ap (emptyOr test) (drop-of-length-le t end))
+
+    byte-behind : p < length t → test (getD t p 0) ≡ emptyOr test (drop p t)
+    byte-behind more = sym (ap (emptyOr test) (drop-cons t p 0 more))
+
+  -- Place p is a line beginning: it is the first, or a newline stands before it.
+  pub beginning-first : p < 1 → true ≡ lineBeginning (cutAt p t)
+  unfolding lineBeginning
+  beginning-first h = let none : p ≡ 0 = omega arith in rw none
+
+  pub beginning-later : 1 ≤ p → p ≤ length t → isNewline (getD t (p - 1) 0) ≡ lineBeginning (cutAt p t)
+  unfolding lineBeginning
+  beginning-later above fits = sym (ap (emptyOr isNewline) (byte-before above fits))
+
+  -- Place p is a line ending: it is the last, or a newline stands behind it.
+  pub ending-last : length t ≤ p → true ≡ lineEnding (cutAt p t)
+  unfolding lineEnding
+  ending-last end = at-last isNewline end
+
+  pub ending-before : p < length t → isNewline (getD t p 0) ≡ lineEnding (cutAt p t)
+  unfolding lineEnding
+  ending-before more = byte-behind isNewline more
+
+  -- Place p is a word place: at a line beginning always, behind a space unless a blank follows, behind another byte never.
+  word-beginning : true ≡ lineBeginning (cutAt p t) → true ≡ word (cutAt p t)
+  unfolding word
+  word-beginning e = sym (or-right (emptyOr blank (lastOf (take p t)) && emptyOr (λ b. not (blank b)) (drop p t)) (sym e))
+
+  pub word-first : p < 1 → true ≡ word (cutAt p t)
+  word-first h = word-beginning (beginning-first h)
+
+  module _ (above : 1 ≤ p) (fits : p ≤ length t) where
+    pub word-newline : getD t (p - 1) 0 ≡ 10 → true ≡ word (cutAt p t)
+    word-newline e = word-beginning (sym (eq-eqb _ _ e) ∙ beginning-later above fits)
+
+    pub word-inside : (getD t (p - 1) 0 ≡ 10 → ⊥) → (getD t (p - 1) 0 ≡ 32 → ⊥) → false ≡ word (cutAt p t)
+    unfolding word lineBeginning
+    word-inside no-newline no-space = sym (rw (byte-before above fits, ne-eqb _ _ no-newline, ne-eqb _ _ no-space))
+
+    module _ (space : getD t (p - 1) 0 ≡ 32) where
+      behind-space : emptyOr (λ b. not (blank b)) (drop p t) ≡ word (cutAt p t)
+      unfolding word lineBeginning
+      behind-space = sym (rw (byte-before above fits, space) (or-false _))
+
+      pub word-last : length t ≤ p → true ≡ word (cutAt p t)
+      word-last end = at-last (λ b. not (blank b)) end ∙ behind-space
+
+      pub word-before : p < length t → not (blank (getD t p 0)) ≡ word (cutAt p t)
+      word-before more = byte-behind (λ b. not (blank b)) more ∙ behind-space
+
+-- A document is at its end where there is room for less than one move; place p of a text has room for p moves to the left.
+empty-short : (s : List ℕ) → isEmpty s ≡ ltb (length s) 1
+empty-short [] = refl
+empty-short (b ∷ s) = sym (le-ltb (length (b ∷ s)) 1 (omega arith))
+
+end-room : (way : Direction) (d : Doc) → isAt Document way d ≡ ltb (room way d) 1
+unfolding isAt documentEnd
+end-room Left d = empty-short (d .l)
+end-room Right d = empty-short (d .r)
+
+module _ (t : List ℕ) (p : ℕ) (fits : p ≤ length t) where
+  pub end-left : ltb p 1 ≡ isAt Document Left (cutAt p t)
+  end-left = sym (end-room Left (cutAt p t) ∙ ap (λ k. ltb k 1) (length-take-le p t fits))
+
+  pub end-right : ltb (length t - p) 1 ≡ isAt Document Right (cutAt p t)
+  end-right = sym (end-room Right (cutAt p t) ∙ ap (λ k. ltb k 1) (length-drop p t))
+
+-- Where the code has found out the kind and the direction: the test for these is the test asked for, and so is the distance.
+pub test-known : {place kind : Place} {way known : Direction} {ok : Bool} (d : Doc) → place ≡ kind → way ≡ known
+    → ok ≡ isAt kind known d → ok ≡ isAt place way d
+test-known d p q e = e ∙ sym (ap₂ (λ place way. isAt place way d) p q)
+
+pub distance-known : {place kind : Place} {way known : Direction} {s : Search} (d : Doc) → place ≡ kind → way ≡ known
+    → s ≡ distance known (isAt kind known) d → s ≡ distance way (isAt place way) d
+distance-known d p q e = e ∙ sym (ap₂ (λ place way. distance way (isAt place way) d) p q)
+
+-- Tests that agree on the numbers looked at find the same number.
+nearest-same : {f g : ℕ → Bool} (n k : ℕ) → ((j : ℕ) → k ≤ j → j < k + n → f j ≡ g j) → nearest f n k ≡ nearest g n k
+unfolding nearest
+nearest-same zero k same = refl
+nearest-same (suc n) k same =
+    ap₂ (λ passes further. cond passes (Reached k) further) (same k (omega arith) (omega arith))
+    (nearest-same n (suc k) (λ j low high. same j (omega arith) (omega arith)))
+
+-- A place test sees no more than the byte on either side.
+same-right : (place : Place) (x s y : List ℕ) (b : ℕ) → isAt place Left (record { l = x; r = b ∷ s })
+    ≡ isAt place Left (record { l = x; r = (b ∷ s) ++ y })
+unfolding isAt word lineBeginning lineEnding documentEnd
+same-right Character x s y b = refl
+same-right Word x s y b = refl
+same-right LineBeginning x s y b = refl
+same-right LineEnding x s y b = refl
+same-right Document x s y b = refl
+
+same-left : (place : Place) (x z y : List ℕ) → lastOf x ≡ lastOf z → isAt place Right (record { l = x; r = y })
+    ≡ isAt place Right (record { l = z; r = y })
+unfolding isAt word lineBeginning lineEnding documentEnd
+same-left Character x z y e = refl
+same-left Word x z y e = rw e
+same-left LineBeginning x z y e = ap (emptyOr isNewline) e
+same-left LineEnding x z y e = refl
+same-left Document x z y e = refl
+
+last-append : (x s : List ℕ) → 1 ≤ length s → lastOf (x ++ s) ≡ lastOf s
+last-append x s some =
+    let behind : length (x ++ s) - 1 ≡ length x + (length s - 1) = simp length-append (omega arith) in
+    rw (behind, drop-append-add)
+
+-- Whether d moves from the end of a text, or from its front, lead to a place, by that text alone.
+abbrev pub placeLeft : Place → List ℕ → ℕ → Bool
+placeLeft place t d = isAt place Left (cutAt (length t - d) t)
+
+abbrev pub placeRight : Place → List ℕ → ℕ → Bool
+placeRight place t d = isAt place Right (cutAt d t)
+
+module _ (place : Place) (l r : List ℕ) where
+  at-left : (d : ℕ) → 1 ≤ d → d < 1 + length l
+      → placeLeft place l d ≡ isAt place Left (times (move Left) d (record { l = l; r = r }))
+  at-left d low high =
+      rw (moves-left, drop-cons l (length l - d) 0 (omega arith)) (same-right place (take (length l - d) l) _ r _)
+
+  at-right : (d : ℕ) → 1 ≤ d → d < 1 + length r
+      → placeRight place r d ≡ isAt place Right (times (move Right) d (record { l = l; r = r }))
+  at-right d low high =
+      let size = length-take-le d r (omega arith) in
+      rw (moves-right, same-left place (take d r) (l ++ take d r) (drop d r) (sym (last-append l (take d r) (omega arith))))
+
+  -- The distance is a search through one text.
+  pub distance-left : nearest (placeLeft place l) (length l) 1
+      ≡ distance Left (isAt place Left) (record { l = l; r = r })
+  unfolding distance
+  distance-left = nearest-same (length l) 1 at-left
+
+  pub distance-right : nearest (placeRight place r) (length r) 1
+      ≡ distance Right (isAt place Right) (record { l = l; r = r })
+  unfolding distance
+  distance-right = nearest-same (length r) 1 at-right
+
+-- To the end of the text the distance is all that lies there, or none where nothing does.
+module _ (way : Direction) (d : Doc) where
+  end-moves : (n : ℕ) → isAt Document way (times (move way) n d) ≡ ltb (room way d - n) 1
+  end-moves n = end-room way (times (move way) n d) ∙ ap (λ k. ltb k 1) (room-moves way n d)
+
+  pub distance-end : wholeOf (room way d) ≡ distance way (isAt Document way) d
+  distance-end =
+      ⊎-elim
+      (λ some.
+      cond-true _ _ some
+      ∙ sym (distance-least way (isAt Document way) d (room way d) .1 (record {
+        above = leb-true 1 (room way d) some;
+        within = omega arith;
+        reaches = end-moves (room way d) ∙ lt-ltb (room way d - room way d) 1 (omega arith);
+        smaller = λ m low high. end-moves m ∙ le-ltb (room way d - m) 1 (omega arith);
+      })))
+      (λ short.
+      cond-false _ _ short
+      ∙ sym (distance-nowhere way (isAt Document way) d .1 (λ n low high. absurd (omega (arith, leb-false 1 (room way d) short)))))
+      (decided (leb 1 (room way d)))
+
+-- In a gap store: the parts that the code lends are the texts.
+module _ (place : Place) {way : Direction} {found : Search} (l r : ℕ) (s : List ℕ) where
+  pub gap-left : way ≡ Left → ((y : List ℕ) → found ≡ distance Left (isAt place Left) (record { l = take l s; r = y }))
+      → found ≡ distance way (isAt place way) (ungap l r s)
+  unfolding ungap
+  gap-left toward e = distance-known (ungap l r s) refl toward (e (drop (length s - r) s))
+
+  pub gap-right : way ≡ Right
+      → ((x : List ℕ) → found ≡ distance Right (isAt place Right)
+      (record { l = x; r = take (length s - (length s - r)) (drop (length s - r) s) }))
+      → found ≡ distance way (isAt place way) (ungap l r s)
+  unfolding ungap
+  gap-right toward e = distance-known (ungap l r s) refl toward (rw part-to-end at (e (take l s)))

@@ -1,0 +1,220 @@
+-- Replies to keys: what a session gives each of its sides, and what a key on one side is on all three stores.
+use mathlib.Core.Path.{_≡_, refl, sym, ap, _∙_}
+use mathlib.Core.Bool.{Bool, true, false, cond, and-true}
+use mathlib.Core.List.{List, _++_, append-assoc}
+use Prim.Native.Nat.{ℕ, _*_, _≤_}
+use native.Mathlib.Omega.{arith}
+use lib.Dec.{leb}
+use lib.ListN.{length, drop, length-append}
+use lib.Seq.{drop-at}
+use borrow.Author.Tests.{le-leb}
+use Rattle.gap.specs.Sequence.{patch, zeros}
+use Rattle.gap.specs.Doc.{empty, content}
+use Rattle.gap.specs.Layout.{gapped, paired, soundGap, soundPair, IsGap, IsPair}
+use Rattle.gap.proofs.Laws.Tests.{cond-true, cond-false}
+use Rattle.gap.proofs.Laws.Layout.{sound-gap, sound-pair, length-gapped, length-paired}
+use Rattle.editor.specs.Words.{Mode, Main, Quoted, Sizes, Lengths}
+use Rattle.editor.specs.declared.Turn.{Turn}
+use Rattle.editor.specs.declared.Reply.{Reply}
+use Rattle.editor.specs.Plain.{Side, emptySide, Plain, Did, within, FULL, refused, done}
+use Rattle.editor.specs.Keys.{sideOf, withSide, onSide, quoted, fits, bounded}
+use Rattle.editor.specs.Bytes.{Stores, Edited, quarterOf, alone, sizesOf, plainOf, lengthsOf, storesOf, editedTo}
+use Rattle.editor.specs.Promise.{OnSide, sideHeld, Turned, turned, written, Turns}
+use Rattle.editor.specs.Promise.{Sound, stores, replied, quoteTaken, sizedIn, replyOf}
+use Rattle.editor.proofs.Laws.Sound.{SoundPlain}
+use Rattle.editor.proofs.Laws.Quarters.{length-quarter}
+use Rattle.editor.proofs.Laws.Quotation.{two-quarters, quotation-cleared}
+use Rattle.editor.proofs.Laws.Session.{measured, passed}
+use Rattle.editor.proofs.Laws.Sides.{content-fits}
+use Rattle.editor.proofs.Laws.States.{limit, sound-fits, quoted-sound}
+use Rattle.editor.proofs.Theorems.Layouts.{Encoded, session-encoded}
+
+-- The lengths and the two stores of the side that a mode names.
+abbrev pub sizesAt : Mode → Lengths → Sizes
+sizesAt Main n = n .main
+sizesAt Quoted n = n .quoted
+
+abbrev pub textAt : ℕ → Mode → Stores → List ℕ
+textAt Q Main b = b .text
+textAt Q Quoted b = quarterOf Q 0 (b .side)
+
+abbrev pub recallAt : ℕ → Mode → Stores → List ℕ
+recallAt Q Main b = b .recall
+recallAt Q Quoted b = quarterOf Q 1 (b .side)
+
+-- The stores with another text and another recall text on that side.
+abbrev pub placed : ℕ → Mode → List ℕ → List ℕ → Stores → Stores
+placed Q Main text recall b = stores text recall (b .side)
+placed Q Quoted text recall b = stores (b .text) (b .recall) (text ++ (recall ++ drop (2 * Q) (b .side)))
+
+placed-same : (Q : ℕ) (m : Mode) (b : Stores) → placed Q m (textAt Q m b) (recallAt Q m b) b ≡ b
+placed-same Q Main b = refl
+placed-same Q Quoted b = ap (stores (b .text) (b .recall)) (two-quarters Q (b .side))
+
+-- Stores that differ in the quotation's two quarters only.
+pub quotation-placed : (Q : ℕ) (text recall side then : List ℕ) → drop (2 * Q) then ≡ drop (2 * Q) side
+    → stores text recall then ≡ placed Q Quoted (quarterOf Q 0 then) (quarterOf Q 1 then) (stores text recall side)
+quotation-placed Q text recall side then e =
+    sym (placed-same Q Quoted (stores text recall then))
+    ∙ ap (λ rest. stores text recall (quarterOf Q 0 then ++ (quarterOf Q 1 then ++ rest))) e
+
+-- The pattern and the replacement stand behind the quotation's two quarters.
+behind-quotation : (T Q : ℕ) (p : Plain) → SoundPlain T Q p
+    → drop (2 * Q) (storesOf T Q p .side) ≡ paired Q (alone (p .pattern)) ++ paired Q (p .replacement)
+unfolding storesOf
+behind-quotation T Q p sound =
+    let text = gapped Q (p .quoted .text) in
+    let recall = paired Q (p .quoted .recall) in
+    let one = length-gapped Q (p .quoted .text) (sound .quotation .fits) in
+    let other = length-paired Q (p .quoted .recall) (sound .itsRecall .fits) in
+    ap (drop (2 * Q)) (sym (append-assoc text recall _)) ∙ drop-at (text ++ recall) _ (2 * Q) (rw length-append (omega arith))
+
+-- A sound state with another side: its encoding, when it fits, and its lengths.
+module _ (T Q : ℕ) (s : Side) (p : Plain) (sound : SoundPlain T Q p) where
+  placed-with : (m : Mode) → placed Q m (gapped (limit T Q m) (s .text)) (paired (limit T Q m) (s .recall)) (storesOf T Q p)
+      ≡ storesOf T Q (withSide m s p)
+  unfolding storesOf
+  placed-with Main = refl
+  placed-with Quoted =
+      ap (λ rest. stores (gapped T (p .main .text)) (paired T (p .main .recall)) (gapped Q (s .text) ++ (paired Q (s .recall) ++ rest)))
+      (behind-quotation T Q p sound)
+
+  fits-with : (m : Mode) → leb (length (content (s .text))) (limit T Q m) ≡ fits T Q (withSide m s p)
+  unfolding fits
+  fits-with Main = rw (le-leb _ _ (content-fits Q (p .quoted .text) (sound .quotation)), and-true)
+  fits-with Quoted = rw (le-leb _ _ (content-fits T (p .main .text) (sound .text)))
+
+sized-with : (m : Mode) (s : Side) (p : Plain) → sizedIn m (sizesOf s) (lengthsOf p) ≡ lengthsOf (withSide m s p)
+unfolding lengthsOf
+sized-with Main s p = refl
+sized-with Quoted s p = refl
+
+-- Sound stores, as the routines on them ask for.
+module _ (l r : ℕ) (s : List ℕ) where
+  is-gap : soundGap l r s ≡ true → IsGap l r s
+  is-gap e =
+      let (encodes, holds) = sound-gap l r s e in
+      record { fits = omega (arith, encodes .left, encodes .right, encodes .held .fits); holds = holds }
+
+  is-pair : soundPair l r s ≡ true → IsPair l r s
+  is-pair e =
+      let (encodes, holds) = sound-pair l r s e in
+      record { fits = omega (arith, encodes .left, encodes .right, encodes .held .fits); holds = holds }
+
+module _ (Q : ℕ) (n : Lengths) (b : Stores) (sound : Sound Q n b) where
+  abbrev T : ℕ
+  T = length (b .text)
+
+  -- The plain state held, of which record and stores are the encoding.
+  abbrev p : Plain
+  p = plainOf Q n b
+
+  encoded : Encoded Q n b
+  encoded = session-encoded Q n b (sound .tabled) (sound .ok)
+
+  quarter-long : (i : ℕ) → i ≤ 3 → length (quarterOf Q i (b .side)) ≡ Q
+  quarter-long i h = length-quarter Q 3 i (b .side) (measured Q b (sound .tabled) .side) h
+
+  -- Either side has what a key on it asks.
+  pub on-side : (m : Mode) → OnSide (sizesAt m n) (textAt Q m b) (recallAt Q m b)
+  on-side Main =
+      let tests = passed Q n b (sound .ok) in
+      record {
+        gap = is-gap _ _ _ (tests .text);
+        pair = is-pair _ _ _ (tests .recall);
+        same = measured Q b (sound .tabled) .recall;
+      }
+  on-side Quoted =
+      let tests = passed Q n b (sound .ok) in
+      record {
+        gap = is-gap _ _ _ (tests .quotation);
+        pair = is-pair _ _ _ (tests .itsRecall);
+        same = quarter-long 1 (omega arith) ∙ sym (quarter-long 0 (omega arith));
+      }
+
+  length-text : (m : Mode) → length (textAt Q m b) ≡ limit T Q m
+  length-text Main = refl
+  length-text Quoted = quarter-long 0 (omega arith)
+
+  length-recall : (m : Mode) → length (recallAt Q m b) ≡ limit T Q m
+  length-recall m = on-side m .same ∙ length-text m
+
+  -- What a key on a side answers, as an answer on all three stores.
+  answer : Mode → Turned → Edited
+  answer m t =
+      replied (replyOf m n (record { full = t .full; steps = t .steps; bell = t .bell; sizes = t .sizes }))
+      (placed Q m (t .text) (t .recall) b)
+
+  module _ (m : Mode) (did : Did Side) where
+    -- The side that it leaves, and all of it.
+    abbrev left : Side
+    left = did .state
+
+    abbrev all : Did Plain
+    all = within (λ s. withSide m s p) did
+
+    lengths-with : sizedIn m (sizesOf left) n ≡ lengthsOf (all .state)
+    lengths-with = ap (sizedIn m (sizesOf left)) (sym (encoded .lengths)) ∙ sized-with m left p
+
+    stores-with : placed Q m (gapped (length (textAt Q m b)) (left .text)) (paired (length (recallAt Q m b)) (left .recall)) b
+        ≡ storesOf T Q (all .state)
+    stores-with =
+        (λ i. placed Q m (gapped (length-text m i) (left .text)) (paired (length-recall m i) (left .recall)) (sym (encoded .stores) i))
+        ∙ placed-with T Q left p (encoded .sound) m
+
+    answered : (room : Bool) → leb (length (content (left .text))) (length (textAt Q m b)) ≡ room
+        → answer m (written (sizesAt m n) (textAt Q m b) (recallAt Q m b) did) ≡ editedTo Q n b (cond room (done all) (refused FULL))
+    unfolding written answer
+    answered true e = ap (answer m) (cond-true _ _ e) ∙ λ i. record {
+      code = 0;
+      steps = did .steps;
+      bell = did .bell;
+      lengths = lengths-with i;
+      stores = stores-with i;
+    }
+    answered false e = ap (answer m) (cond-false _ _ e) ∙ λ i. record {
+      code = FULL;
+      steps = 0;
+      bell = false;
+      lengths = n;
+      stores = placed-same Q m b i;
+    }
+
+    -- A key on a side, done or refused as full, is that key on all three stores: the side that it leaves alone fits anyway.
+    pub landed : (t : Turn) (text recall : List ℕ) → turned t text recall ≡ written (sizesAt m n) (textAt Q m b) (recallAt Q m b) did
+        → replied (replyOf m n t) (placed Q m text recall b) ≡ editedTo Q n b (bounded T Q (within (λ s. withSide m s p) did))
+    unfolding answer bounded
+    landed t text recall e =
+        ap (answer m) e
+        ∙ answered _ (ap (leb (length (content (left .text)))) (length-text m) ∙ fits-with T Q left p (encoded .sound) m)
+
+  side-held : (m : Mode) → sideHeld (sizesAt m n) (textAt Q m b) (recallAt Q m b) ≡ sideOf m p
+  unfolding plainOf
+  side-held Main = refl
+  side-held Quoted = refl
+
+  -- So a key on the mode's side does what the plain editor says.
+  pub on-mode : (m : Mode) (edit : Side → Did Side) (r : Reply) (t : Turn) (text recall : List ℕ)
+      → n .mode ≡ m → r ≡ replyOf (n .mode) n t → Turns t (sizesAt m n) edit (textAt Q m b) (recallAt Q m b) text recall
+      → replied r (placed Q m text recall b) ≡ editedTo Q n b (bounded T Q (onSide edit p))
+  unfolding plainOf onSide
+  on-mode m edit r t text recall mode reply turns =
+      let outcome : Mode → Side → Edited = λ m s. editedTo Q n b (bounded T Q (within (λ s. withSide m s p) (edit s))) in
+      ap (λ r. replied r (placed Q m text recall b)) (reply ∙ ap (λ m. replyOf m n t) mode)
+      ∙ landed m (edit (sideHeld (sizesAt m n) (textAt Q m b) (recallAt Q m b))) t text recall turns
+      ∙ ap (outcome m) (side-held m)
+      ∙ ap (λ m. outcome m (sideOf m p)) (sym mode)
+
+  -- QUOTE: both of the quotation's quarters become free.
+  pub quote-replied : (lengths : Lengths) (side : List ℕ) → lengths ≡ quoteTaken n → side ≡ patch 0 (zeros (2 * Q)) (b .side)
+      → replied (record { code = 0; steps = 0; bell = false; lengths = lengths }) (stores (b .text) (b .recall) side)
+      ≡ editedTo Q n b (bounded T Q (quoted p))
+  unfolding quoted bounded lengthsOf storesOf
+  quote-replied lengths side taken cleared =
+      let room : fits T Q (quoted p .state) ≡ true = sound-fits T Q (quoted p .state) (quoted-sound T Q p (encoded .sound)) in
+      let freed : stores (b .text) (b .recall) side ≡ storesOf T Q (quoted p .state) =
+      ap (stores (b .text) (b .recall)) (cleared ∙ quotation-cleared Q (b .side))
+      ∙ ap (placed Q Quoted (gapped Q empty) (paired Q empty)) (sym (encoded .stores))
+      ∙ placed-with T Q emptySide p (encoded .sound) Quoted in
+      (λ i. record { code = 0; steps = 0; bell = false; lengths = (taken ∙ ap quoteTaken (sym (encoded .lengths))) i; stores = freed i })
+      ∙ ap (editedTo Q n b) (sym (cond-true (done (quoted p)) (refused FULL) room))

@@ -1,0 +1,17 @@
+-- `places::line_beginning_at` meets its contract: the place is the first, or the byte before it decides.
+use borrow.Author.Needs.{needs}
+use Rattle.editor.proofs.Laws.PlaceScans.{beginning-first, beginning-later}
+use Rattle.editor.proofs.places.line_beginning_at.Statement.{statement}
+use Rattle.editor.proofs.places.line_beginning_at.Tie as tie
+
+returns : tie.Need-returns
+returns c = beginning-first _ _ (c .if1 .taken)
+
+shared-slice-read-result : tie.Need-shared-slice-read-result
+shared-slice-read-result c = search needs
+
+returns-2 : tie.Need-returns-2
+returns-2 c = beginning-later _ _ (c .before .if1 .left) (c .before .before .pre)
+
+pub line-beginning-at-spec : {M : Type 1} → statement M
+line-beginning-at-spec = tie.close (tie.spec returns shared-slice-read-result returns-2)

@@ -1,0 +1,149 @@
+// Places, and the distance to the nearest one. Going left only the text left of the cursor matters, going right only the other.
+use crate::Place;
+use gap::Direction;
+use gap::Search;
+ghost use mathlib.Core.Path.{_≡_};
+ghost use mathlib.Core.List.{List};
+ghost use Prim.Native.Nat.{ℕ, _+_, _≤_};
+ghost use lib.ListN.{length, take, drop};
+ghost use Rattle.gap.specs.declared.Direction.the-variants.{Left, Right};
+ghost use Rattle.gap.specs.Nearest.{distance};
+ghost use Rattle.gap.specs.Layout.{ungap};
+ghost use Rattle.editor.specs.Places.{lineBeginning, lineEnding, word, isAt};
+ghost use Rattle.editor.specs.Promise.{wholeOf};
+
+// Place p of a text is a line beginning.
+pub fn line_beginning_at(t: &[u8], p: usize) -> bool
+    requires { ⌜ p ≤ length (now t) ⌝ }
+    ensures { λ ok. ⌜ ok ≡ lineBeginning (record { l = take p (now (t .entry)); r = drop p (now (t .entry)) }) ⌝ }
+{
+    if p < 1 {
+        return true;
+    }
+    t[p - 1] == 10
+}
+
+// Place p of a text is a line ending.
+pub fn line_ending_at(t: &[u8], p: usize) -> bool
+    requires { ⌜ p ≤ length (now t) ⌝ }
+    ensures { λ ok. ⌜ ok ≡ lineEnding (record { l = take p (now (t .entry)); r = drop p (now (t .entry)) }) ⌝ }
+{
+    if t.len() <= p {
+        return true;
+    }
+    t[p] == 10
+}
+
+// Place p of a text is a word place: behind a newline or nothing always; behind a space unless a blank follows.
+pub fn word_at(t: &[u8], p: usize) -> bool
+    requires { ⌜ p ≤ length (now t) ⌝ }
+    ensures { λ ok. ⌜ ok ≡ word (record { l = take p (now (t .entry)); r = drop p (now (t .entry)) }) ⌝ }
+{
+    if p < 1 {
+        return true;
+    }
+    let a = t[p - 1];
+    if a == 10 {
+        return true;
+    }
+    if a != 32 {
+        return false;
+    }
+    if t.len() <= p {
+        return true;
+    }
+    let b = t[p];
+    !((b == 32) | (b == 10))
+}
+
+// Place p of a text is such a place, for the direction.
+pub fn stands(place: Place, way: Direction, t: &[u8], p: usize) -> bool
+    requires { ⌜ p ≤ length (now t) ⌝ }
+    ensures { λ ok. ⌜ ok ≡ isAt place way (record { l = take p (now (t .entry)); r = drop p (now (t .entry)) }) ⌝ }
+{
+    match place {
+        Place::Character => true,
+        Place::Word => word_at(t, p),
+        Place::LineBeginning => line_beginning_at(t, p),
+        Place::LineEnding => line_ending_at(t, p),
+        Place::Document => match way {
+            Direction::Left => p < 1,
+            Direction::Right => t.len() - p < 1,
+        },
+    }
+}
+
+// The distance to the left, over the text left of the cursor, byte by byte as far as the place.
+fn scan_left(place: Place, t: &[u8]) -> Search
+    ensures { λ s. ⌜ ((r : List ℕ) → s ≡ distance Left (isAt place Left) (record { l = now (t .entry); r = r })) ⌝ }
+{
+    let n = t.len();
+    let mut d = 1;
+    while d <= n {
+        if stands(place, Direction::Left, t, n - d) {
+            return Search::Reached(d);
+        }
+        d += 1;
+    }
+    Search::Nowhere
+}
+
+// The distance to the right, over the text right of the cursor.
+fn scan_right(place: Place, t: &[u8]) -> Search
+    ensures { λ s. ⌜ ((l : List ℕ) → s ≡ distance Right (isAt place Right) (record { l = l; r = now (t .entry) })) ⌝ }
+{
+    let n = t.len();
+    let mut d = 1;
+    while d <= n {
+        if stands(place, Direction::Right, t, d) {
+            return Search::Reached(d);
+        }
+        d += 1;
+    }
+    Search::Nowhere
+}
+
+// The distance to the left; to the end of the text there is nothing to look for.
+pub fn distance_left(place: Place, t: &[u8]) -> Search
+    ensures { λ s. ⌜ ((r : List ℕ) → s ≡ distance Left (isAt place Left) (record { l = now (t .entry); r = r })) ⌝ }
+{
+    match place {
+        Place::Document => whole(t),
+        _ => scan_left(place, t),
+    }
+}
+
+// The same to the right.
+pub fn distance_right(place: Place, t: &[u8]) -> Search
+    ensures { λ s. ⌜ ((l : List ℕ) → s ≡ distance Right (isAt place Right) (record { l = l; r = now (t .entry) })) ⌝ }
+{
+    match place {
+        Place::Document => whole(t),
+        _ => scan_right(place, t),
+    }
+}
+
+// The distance over all of a text.
+fn whole(t: &[u8]) -> Search
+    ensures { λ s. ⌜ s ≡ wholeOf (length (now (t .entry))) ⌝ }
+{
+    let n = t.len();
+    if n < 1 {
+        return Search::Nowhere;
+    }
+    Search::Reached(n)
+}
+
+// The distance in a direction, in a gap store.
+pub fn place_distance(place: Place, way: Direction, s: &[u8], l: usize, r: usize) -> Search
+    requires { ⌜ l + r ≤ length (now s) ⌝ }
+    ensures { λ d. ⌜ d ≡ distance way (isAt place way) (ungap l r (now (s .entry))) ⌝ }
+{
+    match way {
+        Direction::Left => distance_left(place, &s[..l]),
+        Direction::Right => {
+            let back = s.len() - r;
+            distance_right(place, &s[back..])
+        }
+    }
+}
