@@ -5,6 +5,7 @@ pub mod Doc
 pub mod Lines
 pub mod Layout
 pub mod Runs
+pub mod Shifts
 pub mod Stores
 pub mod Scans
 pub mod StoreTests

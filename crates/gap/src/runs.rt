@@ -1,8 +1,8 @@
-// Runs of bytes: clearing, copying, and taking a run out of a store into a pair store.
+// Runs of bytes: clearing, copying, taking a run out of a store into a pair store, and shifting a run within a store.
 ghost use mathlib.Core.Path.{_≡_};
 ghost use mathlib.Core.List.{_++_};
 ghost use Prim.Native.Nat.{_+_, _-_, _≤_, _<_};
-ghost use lib.ListN.{length, drop};
+ghost use lib.ListN.{length, take, drop};
 ghost use Rattle.gap.specs.Sequence.{part, patch, zeros};
 
 // Every byte becomes 0.
@@ -45,6 +45,36 @@ pub fn vacate(s: &mut [u8], at: usize, d: usize)
     clear(&mut s[at..end]);
 }
 
+// From place n on, every byte becomes 0.
+pub fn clear_from(s: &mut [u8], n: usize)
+    requires { ⌜ n ≤ length (now s) ⌝ }
+    ensures { λ _. ⌜ now (s .exit) ≡ take n (now (s .entry)) ++ zeros (length (now (s .entry)) - n) ⌝ }
+{
+    let rest = s.len() - n;
+    vacate(s, n, rest);
+}
+
+// The run is all that the store holds: the run, then zeros to the end.
+pub fn hold(s: &mut [u8], run: &[u8])
+    requires { ⌜ length (now run) ≤ length (now s) ⌝ }
+    ensures { λ _. ⌜ now (s .exit) ≡ now (run .entry) ++ zeros (length (now (s .entry)) - length (now (run .entry))) ⌝ }
+{
+    let n = run.len();
+    copy_front(s, run);
+    clear_from(s, n);
+}
+
+// The d bytes from `at` on become all that a pair store holds, and their place becomes 0.
+pub fn take_out(s: &mut [u8], at: usize, d: usize, pair: &mut [u8])
+    requires { ⌜ (at + d ≤ length (now s)) × (d ≤ length (now pair)) ⌝ }
+    ensures { λ _. ⌜ now (s .exit) ≡ patch at (zeros d) (now (s .entry)) ⌝ }
+    ensures { λ _. ⌜ now (pair .exit) ≡ part at d (now (s .entry)) ++ zeros (length (now (pair .entry)) - d) ⌝ }
+{
+    let end = at + d;
+    hold(pair, &s[at..end]);
+    vacate(s, at, d);
+}
+
 // How many of n bytes go in the next block.
 pub fn block_of(n: usize) -> usize
     ensures { λ size. ⌜ (size ≤ n) × (size ≤ 256) × (0 < n → 0 < size) ⌝ }
@@ -55,26 +85,40 @@ pub fn block_of(n: usize) -> usize
     256
 }
 
-// A block of at most 256 bytes goes from one place to another, and its old place becomes 0. The block is read before anything is
-// cleared and cleared before anything is stored, so that the two places may overlap or be the same.
+// A block of at most 256 bytes goes from one place to another, and its old place becomes 0. The block is taken out before it is
+// stored, so that the two places may overlap or be the same.
 pub fn carry(s: &mut [u8], from: usize, to: usize, size: usize)
     requires { ⌜ size ≤ 256 ⌝ }
     requires { ⌜ (from + size ≤ length (now s)) × (to + size ≤ length (now s)) ⌝ }
     ensures { λ _. ⌜ now (s .exit) ≡ patch to (part from size (now (s .entry))) (patch from (zeros size) (now (s .entry))) ⌝ }
 {
     let mut block = [0u8; 256];
-    let end = from + size;
-    copy_front(&mut block, &s[from..end]);
-    vacate(s, from, size);
+    take_out(s, from, size, &mut block);
     copy_at(s, to, &block[..size]);
 }
 
-// The run is all that the store holds: the run, then zeros to the end.
-pub fn hold(s: &mut [u8], run: &[u8])
-    requires { ⌜ length (now run) ≤ length (now s) ⌝ }
-    ensures { λ _. ⌜ now (s .exit) ≡ now (run .entry) ++ zeros (length (now (s .entry)) - length (now (run .entry))) ⌝ }
+// Where in a run of d bytes the next block lies, if `left` of them are still to go: at their end on the way up, else at their front.
+// So no block is stored over one that is still to go.
+fn block_at(from: usize, to: usize, d: usize, left: usize, size: usize) -> usize
+    requires { ⌜ (size ≤ left) × (left ≤ d) ⌝ }
+    ensures { λ at. ⌜ (at + size ≤ d) × (from < to → at ≡ left - size) × (to ≤ from → at ≡ d - left) ⌝ }
 {
-    let n = run.len();
-    copy_front(s, run);
-    clear(&mut s[n..]);
+    if from < to {
+        return left - size;
+    }
+    d - left
+}
+
+// A run of any length goes from one place to another, block by block, and its old place becomes 0.
+pub fn shift(s: &mut [u8], from: usize, to: usize, d: usize)
+    requires { ⌜ (from + d ≤ length (now s)) × (to + d ≤ length (now s)) ⌝ }
+    ensures { λ _. ⌜ now (s .exit) ≡ patch to (part from d (now (s .entry))) (patch from (zeros d) (now (s .entry))) ⌝ }
+{
+    let mut left = d;
+    while 0 < left {
+        let size = block_of(left);
+        let at = block_at(from, to, d, left, size);
+        carry(s, from + at, to + at, size);
+        left -= size;
+    }
 }

@@ -1,10 +1,11 @@
 // Tests of bytes and of whole stores. The loops carry a flag and have neither branch nor exit, so that they are vectorised.
 use crate::Search;
 ghost use mathlib.Core.Path.{_≡_};
-ghost use mathlib.Core.Bool.{not};
-ghost use Prim.Native.Nat.{ℕ};
-ghost use lib.ListN.{length, getD};
-ghost use Rattle.gap.specs.Sequence.{every};
+ghost use mathlib.Core.Bool.{true, false, not, _&&_};
+ghost use mathlib.Core.List.{_++_};
+ghost use Prim.Native.Nat.{ℕ, _+_, _-_, _≤_, _<_};
+ghost use lib.ListN.{length, take, drop, getD};
+ghost use Rattle.gap.specs.Sequence.{every, part};
 ghost use Rattle.gap.specs.Nearest.{nearest};
 ghost use Rattle.gap.specs.Layout.{allowed, free, soundGap, soundPair};
 
@@ -51,22 +52,36 @@ pub fn bad_byte(s: &[u8]) -> Search
     Search::Nowhere
 }
 
-// The store is a sound gap store for these lengths. No sum is formed before both lengths are known to fit.
+// Texts of l and r bytes fit into n. No sum is formed, so that none can wrap.
+fn fit(n: usize, l: usize, r: usize) -> bool
+    ensures { λ ok. ⌜ (ok ≡ true → l + r ≤ n) × (ok ≡ false → n < l + r) ⌝ }
+{
+    if n < l {
+        return false;
+    }
+    r <= n - l
+}
+
+// The bytes in front of a and from b on are allowed, and those between are free.
+fn free_between(s: &[u8], a: usize, b: usize) -> bool
+    requires { ⌜ (a ≤ b) × (b ≤ length (now s)) ⌝ }
+    ensures { λ ok. ⌜ ok ≡ (every allowed (take a (now (s .entry)) ++ drop b (now (s .entry))) && every free (part a (b - a) (now (s .entry)))) ⌝ }
+{
+    let front = all_allowed(&s[..a]);
+    let behind = all_allowed(&s[b..]);
+    let between = all_free(&s[a..b]);
+    front & behind & between
+}
+
+// The store is a sound gap store for these lengths.
 pub fn sound_gap(s: &[u8], l: usize, r: usize) -> bool
     ensures { λ ok. ⌜ ok ≡ soundGap l r (now (s .entry)) ⌝ }
 {
     let n = s.len();
-    if n < l {
-        return false;
+    if fit(n, l, r) {
+        return free_between(s, l, n - r);
     }
-    if n - l < r {
-        return false;
-    }
-    let back = n - r;
-    let left = all_allowed(&s[..l]);
-    let right = all_allowed(&s[back..]);
-    let between = all_free(&s[l..back]);
-    left & right & between
+    false
 }
 
 // The store is a sound pair store for these lengths.
@@ -74,14 +89,8 @@ pub fn sound_pair(s: &[u8], l: usize, r: usize) -> bool
     ensures { λ ok. ⌜ ok ≡ soundPair l r (now (s .entry)) ⌝ }
 {
     let n = s.len();
-    if n < l {
-        return false;
+    if fit(n, l, r) {
+        return free_between(s, l + r, n);
     }
-    if n - l < r {
-        return false;
-    }
-    let used = l + r;
-    let texts = all_allowed(&s[..used]);
-    let rest = all_free(&s[used..]);
-    texts & rest
+    false
 }

@@ -1,10 +1,9 @@
 // Gap stores: moving the cursor, inserting, deleting into a pair store, and placing a pair into the text.
-use crate::runs::block_of;
-use crate::runs::carry;
-use crate::runs::clear;
+use crate::runs::clear_from;
 use crate::runs::copy_at;
-use crate::runs::copy_front;
 use crate::runs::hold;
+use crate::runs::shift;
+use crate::runs::take_out;
 use crate::runs::vacate;
 ghost use mathlib.Core.Path.{_≡_};
 ghost use mathlib.Core.List.{[], _∷_};
@@ -14,40 +13,24 @@ ghost use Rattle.gap.specs.declared.Direction.the-variants.{Left, Right}
 ghost use Rattle.gap.specs.Doc.{content, empty, move, delete, times, removed, splice};
 ghost use Rattle.gap.specs.Layout.{gapped, paired, ungap, unpair, IsGap};
 
-// The cursor goes d bytes left, block by block.
+// The cursor goes d bytes left: they cross the gap.
 pub fn move_left(s: &mut [u8], l: usize, r: usize, d: usize)
     requires { ⌜ IsGap l r (now s) ⌝ }
     requires { ⌜ d ≤ l ⌝ }
     ensures { λ _. ⌜ now (s .exit) ≡ gapped (length (now (s .entry))) (times (move Left) d (ungap l r (now (s .entry)))) ⌝ }
 {
-    let mut from = l;
-    let mut to = s.len() - r;
-    let mut left = d;
-    while 0 < left {
-        let size = block_of(left);
-        from -= size;
-        to -= size;
-        left -= size;
-        carry(s, from, to, size);
-    }
+    let back = s.len() - r;
+    shift(s, l - d, back - d, d);
 }
 
-// The cursor goes d bytes right, block by block.
+// The cursor goes d bytes right.
 pub fn move_right(s: &mut [u8], l: usize, r: usize, d: usize)
     requires { ⌜ IsGap l r (now s) ⌝ }
     requires { ⌜ d ≤ r ⌝ }
     ensures { λ _. ⌜ now (s .exit) ≡ gapped (length (now (s .entry))) (times (move Right) d (ungap l r (now (s .entry)))) ⌝ }
 {
-    let mut to = l;
-    let mut from = s.len() - r;
-    let mut left = d;
-    while 0 < left {
-        let size = block_of(left);
-        carry(s, from, to, size);
-        to += size;
-        from += size;
-        left -= size;
-    }
+    let back = s.len() - r;
+    shift(s, back, l, d);
 }
 
 // A byte goes in left of the cursor.
@@ -66,9 +49,7 @@ pub fn delete_left(s: &mut [u8], l: usize, r: usize, d: usize, pair: &mut [u8])
     ensures { λ _. ⌜ now (s .exit) ≡ gapped (length (now (s .entry))) (times (delete Left) d (ungap l r (now (s .entry)))) ⌝ }
     ensures { λ _. ⌜ now (pair .exit) ≡ paired (length (now (pair .entry))) (removed Left d (ungap l r (now (s .entry)))) ⌝ }
 {
-    let at = l - d;
-    hold(pair, &s[at..l]);
-    vacate(s, at, d);
+    take_out(s, l - d, d, pair);
 }
 
 // The d bytes right of the cursor go into the pair store.
@@ -78,10 +59,8 @@ pub fn delete_right(s: &mut [u8], l: usize, r: usize, d: usize, pair: &mut [u8])
     ensures { λ _. ⌜ now (s .exit) ≡ gapped (length (now (s .entry))) (times (delete Right) d (ungap l r (now (s .entry)))) ⌝ }
     ensures { λ _. ⌜ now (pair .exit) ≡ paired (length (now (pair .entry))) (removed Right d (ungap l r (now (s .entry)))) ⌝ }
 {
-    let at = s.len() - r;
-    let end = at + d;
-    hold(pair, &s[at..end]);
-    vacate(s, at, d);
+    let back = s.len() - r;
+    take_out(s, back, d, pair);
 }
 
 // Both halves of a pair, x and y bytes long, go in around the cursor.
@@ -112,10 +91,8 @@ pub fn hand_over(s: &[u8], l: usize, r: usize, pair: &mut [u8])
     ensures { λ _. ⌜ now (pair .exit) ≡ paired (length (now (pair .entry))) (ungap l r (now (s .entry))) ⌝ }
 {
     let back = s.len() - r;
-    let used = l + r;
-    copy_front(pair, &s[..l]);
+    hold(pair, &s[..l]);
     copy_at(pair, l, &s[back..]);
-    clear(&mut pair[used..]);
 }
 
 // The first n bytes become the text right of the cursor, with nothing left of it; whatever stood behind them is cleared.
@@ -123,7 +100,7 @@ pub fn open_text(s: &mut [u8], n: usize)
     requires { ⌜ n ≤ length (now s) ⌝ }
     ensures { λ _. ⌜ now (s .exit) ≡ gapped (length (now (s .entry))) (record { l = []; r = take n (now (s .entry)) }) ⌝ }
 {
-    clear(&mut s[n..]);
+    clear_from(s, n);
     move_left(s, n, 0, n);
 }
 

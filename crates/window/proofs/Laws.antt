@@ -2,3 +2,17 @@ pub mod Window
 pub mod Rows
 pub mod Views
 pub mod Order
+pub mod Spots
+pub mod Pieces
+pub mod Paint
+pub mod PaintedRun
+pub mod PaintedRows
+pub mod PaintedCells
+pub mod Painter
+pub mod LineStarts
+pub mod Refresh
+pub mod DrawnCells
+pub mod Drawing
+pub mod KeyCall
+pub mod HostNumbers
+pub mod OpeningCall

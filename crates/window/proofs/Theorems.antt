@@ -5,3 +5,4 @@ pub mod Refusals
 pub mod Sessions
 pub mod DemandThree
 pub mod OneOutcome
+pub mod Promises

@@ -4,5 +4,8 @@ pub mod Window
 pub mod Rows
 pub mod Core
 pub mod Promise
+pub mod Painter
+pub mod Calls
+pub mod Host
 pub mod Terminal
 pub mod Table

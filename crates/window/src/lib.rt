@@ -1,4 +1,9 @@
 // The window layer: the screen, and the core's two calls.
+pub mod calls;
+pub mod cursor;
+pub mod host;
+pub mod painter;
+
 use editor::Lengths;
 
 // The window's offsets r and c, and the screen's H rows and W columns.
@@ -13,4 +18,37 @@ pub struct Frame {
 pub struct Session {
     pub lengths: Lengths,
     pub frame: Frame,
+}
+
+// A place in the virtual text: rows from 1, columns from 0.
+pub struct Spot {
+    pub row: usize,
+    pub column: usize,
+}
+
+// The painter's pen: its line and column from 0, whether a cell of its row has changed, and the rows named so far.
+pub struct Pen {
+    pub y: usize,
+    pub x: usize,
+    pub changed: bool,
+    pub first: usize,
+    pub last: usize,
+}
+
+// What a call answers.
+pub struct Answer {
+    pub code: usize,
+    pub place: usize,
+    pub steps: usize,
+    pub bell: bool,
+    pub first: usize,
+    pub last: usize,
+    pub row: usize,
+    pub column: usize,
+}
+
+// The answer with the record handed back.
+pub struct Reply {
+    pub answer: Answer,
+    pub session: Session,
 }

@@ -4,7 +4,8 @@ use mathlib.Core.List.{List, [], _∷_, _++_, append-nil}
 use Prim.Native.Nat.{ℕ, _+_, _-_, _≤_, _<_}
 use native.Mathlib.Numerals.{add-one}
 use native.Mathlib.Omega.{arith}
-use lib.ListN.{length, take, drop, set, getD, length-set, length-append, length-drop, drop-of-length-le, take-append-drop, getD-replicate}
+use lib.ListN.{length, take, drop, set, getD, length-set, length-append, length-drop, drop-of-length-le, take-append-drop}
+use lib.ListN.{getD-replicate, replicate-append-replicate}
 use lib.Seq.{length-take-le, take-all, take-at, take-suc, take-length, take-append-seam}
 use lib.Seq.{drop-at, drop-cons, drop-length, drop-drop, append-snoc, set-at, set-split}
 use borrow.Rule.Slice.PartMut.{midOf, putMid}
@@ -38,6 +39,10 @@ copied-all {run} {old} {s} {i} h done =
     let end : i ≡ length run = omega arith in
     h .bytes ∙ ap (λ k. take k run ++ drop k old) end ∙ ap (λ t. t ++ drop (length run) old) (take-length run)
 
+pub zeros-both : (n m : ℕ) → zeros n ++ zeros m ≡ zeros (n + m)
+unfolding zeros
+zeros-both n m = replicate-append-replicate n m 0
+
 at-zeros : (n i : ℕ) → i < n → 0 ≡ getD (zeros n) i 0
 unfolding zeros
 at-zeros n i h = sym (getD-replicate n i 0 0 h)
@@ -57,18 +62,12 @@ cleared-more {old} {s} {i} h more =
 pub cleared-all : {old s : List ℕ} {i : ℕ} → Cleared old i s → length s ≤ i → s ≡ zeros (length old)
 cleared-all {old} {s} {i} h done = copied-all h (rw length-zeros (omega arith)) ∙ rw (length-zeros, drop-length, append-nil)
 
--- A patch in a store that is long enough: the store keeps its length, and the run stands there.
-module _ (a : ℕ) (run s : List ℕ) (fits : a + length run ≤ length s) where
-  before : length (take a s) ≡ a
-  before = length-take-le a s (omega arith)
-
-  pub length-patch : length (patch a run s) ≡ length s
-  unfolding patch
-  length-patch = simp (length-append, before, length-drop) (omega arith)
-
-  pub part-patch : part a (length run) (patch a run s) ≡ run
-  unfolding part patch
-  part-patch = rw (drop-at (take a s) _ a before) (take-append-seam run _)
+-- A patch in a store that is long enough keeps its length.
+pub length-patch : (a : ℕ) (run s : List ℕ) → a + length run ≤ length s → length (patch a run s) ≡ length s
+unfolding patch
+length-patch a run s fits =
+    let before : length (take a s) ≡ a = length-take-le a s (omega arith) in
+    simp (length-append, before, length-drop) (omega arith)
 
 -- A patch with nothing changes nothing, and one byte stored is a patch.
 pub patch-none : (s : List ℕ) (a : ℕ) → patch a [] s ≡ s
@@ -90,7 +89,7 @@ patch-middle x y z run a e f = rw (take-at x (y ++ z) a e, drop-at x (y ++ z) a 
 
 -- A part of a store is lent and comes back: `midOf a k s` are the k bytes from a on, and `putMid a k s t` is the store with t in their
 -- place, as the checker has them. If as many come back, that is a patch.
-pub part-back : (a k : ℕ) (s t : List ℕ) → length t ≡ k → putMid a k s t ≡ patch a t s
+part-back : (a k : ℕ) (s t : List ℕ) → length t ≡ k → putMid a k s t ≡ patch a t s
 unfolding patch
 part-back a k s t e = ap (λ n. take a s ++ (t ++ drop n (drop a s))) (sym e)
 
@@ -105,15 +104,12 @@ module _ (a : ℕ) (s : List ℕ) where
   pub tail-lent : tailOf a s ≡ drop a s
   tail-lent = take-all (length s - a) (drop a s) (rw length-drop (omega arith))
 
-  pub tail-back : (t : List ℕ) → putTail a s t ≡ take a s ++ t
+  tail-back : (t : List ℕ) → putTail a s t ≡ take a s ++ t
   tail-back t = rw (drop-of-length-le (drop a s) {i = length s - a} (rw length-drop (omega arith)), append-nil)
 
   pub tail-copied : (run t : List ℕ) → t ≡ run ++ drop (length run) (tailOf a s) → putTail a s t ≡ patch a run s
   unfolding patch
   tail-copied run t e = tail-back t ∙ rw (e, tail-lent)
-
-  pub tail-cleared : (t : List ℕ) → t ≡ zeros (length (tailOf a s)) → putTail a s t ≡ take a s ++ zeros (length s - a)
-  tail-cleared t e = tail-back t ∙ rw (e, tail-lent, length-drop)
 
 -- A part from a up to a + d.
 module _ (a d : ℕ) (s : List ℕ) (fits : a + d ≤ length s) where
@@ -126,13 +122,22 @@ module _ (a d : ℕ) (s : List ℕ) (fits : a + d ≤ length s) where
       let same : t ≡ zeros d = e ∙ ap zeros (ap length part-lent ∙ length-part a d s fits) in
       rw same (part-back a (a + d - a) s (zeros d) (length-zeros d ∙ omega arith))
 
-  -- A part copied to the front of a block stands there.
-  pub part-copied : (block rest : List ℕ) → block ≡ midOf a (a + d - a) s ++ rest → take d block ≡ part a d s
-  part-copied block rest e = rw (e, part-lent) (take-at (part a d s) rest d (length-part a d s fits))
+  -- A part that a pair store holds alone, and one that stands at the front of a block.
+  pub part-held : (n : ℕ) → midOf a (a + d - a) s ++ zeros (n - length (midOf a (a + d - a) s)) ≡ part a d s ++ zeros (n - d)
+  part-held n = rw (part-lent, length-part a d s fits)
 
--- The store has the run at its front, and what stands behind it is cleared.
-pub held : (run old s t : List ℕ) → length run ≤ length old → s ≡ run ++ drop (length run) old → t ≡ zeros (length (tailOf (length run) s))
-    → putTail (length run) s t ≡ run ++ zeros (length old - length run)
-held run old s t fits e f =
-    let same : length s ≡ length old = rw (e, length-append, length-drop) (omega arith) in
-    tail-cleared (length run) s t f ∙ rw (same, e, take-append-seam)
+  pub part-front : (block rest : List ℕ) → block ≡ part a d s ++ rest → take d block ≡ part a d s
+  part-front block rest e = rw e (take-at (part a d s) rest d (length-part a d s fits))
+
+-- A patch that reaches to the end of the store.
+patch-end : (a : ℕ) (run s : List ℕ) → a + length run ≡ length s → patch a run s ≡ take a s ++ run
+unfolding patch
+patch-end a run s e = rw (drop-of-length-le (drop a s) {i = length run} (rw length-drop (omega arith)), append-nil)
+
+-- The store is cleared from a on; and if a run was copied to its front before, it holds that run alone.
+pub cleared-from : (a : ℕ) (s : List ℕ) → a ≤ length s → patch a (zeros (length s - a)) s ≡ take a s ++ zeros (length s - a)
+cleared-from a s fits = patch-end a (zeros (length s - a)) s (rw length-zeros (omega arith))
+
+pub held : (run old s t : List ℕ) → length s ≡ length old → s ≡ run ++ drop (length run) old
+    → t ≡ take (length run) s ++ zeros (length s - length run) → t ≡ run ++ zeros (length old - length run)
+held run old s t same e f = f ∙ rw (same, e, take-append-seam)

@@ -4,8 +4,8 @@ use mathlib.Core.List.{List, [], _∷_, _++_, append-assoc, append-nil}
 use Prim.Native.Nat.{ℕ, _+_, _-_, _≤_, _<_}
 use native.Mathlib.Nat.{sub-zero, add-zero, zero-add}
 use native.Mathlib.Omega.{arith}
-use lib.ListN.{length, take, drop, set, length-append, length-drop, take-append-drop, replicate-append-replicate}
-use lib.Seq.{length-take-le, take-length, take-at, drop-at, drop-drop}
+use lib.ListN.{length, take, drop, set, length-append, length-drop, take-append-drop}
+use lib.Seq.{length-take-le, take-length}
 use borrow.Rule.Slice.PartMut.{midOf}
 use Rattle.gap.specs.declared.Direction.{Direction}
 use Rattle.gap.specs.declared.Direction.the-variants.{Left, Right}
@@ -14,12 +14,7 @@ use Rattle.gap.specs.Doc.{Doc, room, delete, times, passed, removed, spl
 use Rattle.gap.specs.Layout.{gapped, paired, ungap, unpair, IsGap}
 use Rattle.gap.proofs.Laws.Sequence.{length-part, length-zeros}
 use Rattle.gap.proofs.Laws.Doc.{same-texts, deletions-left, deletions-right, insertions}
-use Rattle.gap.proofs.Laws.Runs.{part-middle, patch-none, patch-one, patch-middle, part-lent}
-use Rattle.gap.proofs.Laws.Runs.{tailOf, putTail, tail-lent, tail-cleared}
-
-zeros-both : (n m : ℕ) → zeros n ++ zeros m ≡ zeros (n + m)
-unfolding zeros
-zeros-both n m = replicate-append-replicate n m 0
+use Rattle.gap.proofs.Laws.Runs.{zeros-both, part-middle, patch-none, patch-one, patch-middle, tailOf, tail-lent, part-lent}
 
 -- Two stores that differ in one run of k bytes: at the place, the one has the run and the other has zeros.
 pub record Filled (place k : ℕ) (run full vacant : List ℕ) : Type 0 where
@@ -80,8 +75,7 @@ module _ (n k place : ℕ) (x y z : List ℕ) (size : length y ≡ k) (fits : le
         rw (e, ← zeros-both) (simp append-assoc);
   }
 
--- The bytes that k deletions take away from a store of n bytes that holds l and r of them: on which side there must be k, where
--- they begin and where they end; and the part that is lent of them.
+-- The k bytes beside the cursor in a store of n bytes that holds l and r of them: on which side there must be k, and where they begin.
 abbrev pub side : Direction → ℕ → ℕ → ℕ
 side Left l r = l
 side Right l r = r
@@ -89,17 +83,6 @@ side Right l r = r
 abbrev pub from : Direction → ℕ → ℕ → ℕ → ℕ → ℕ
 from Left n l r k = l - k
 from Right n l r k = n - r
-
-abbrev pub until : Direction → ℕ → ℕ → ℕ → ℕ → ℕ
-until Left n l r k = l
-until Right n l r k = n - r + k
-
-abbrev pub lent : Direction → ℕ → ℕ → ℕ → List ℕ → List ℕ
-lent way l r k s = midOf (from way (length s) l r k) (until way (length s) l r k - from way (length s) l r k) s
-
-stretch : (way : Direction) (n l r k : ℕ) → k ≤ side way l r → until way n l r k - from way n l r k ≡ k
-stretch Left n l r k h = omega arith
-stretch Right n l r k h = omega arith
 
 module _ (n : ℕ) (d : Doc) (fits : length (d .l) + length (d .r) ≤ n) where
   -- k deletions vacate what they take away.
@@ -149,10 +132,10 @@ module _ {l r : ℕ} {s : List ℕ} (gap : IsGap l r s) where
   unfolding ungap
   length-right = rw length-drop (omega arith)
 
-  sizes : length (ungap l r s .l) + length (ungap l r s .r) ≤ length s
+  pub sizes : length (ungap l r s .l) + length (ungap l r s .r) ≤ length s
   sizes = rw (length-left, length-right) (gap .fits)
 
-  enough : (way : Direction) (k : ℕ) → k ≤ side way l r → k ≤ room way (ungap l r s)
+  pub enough : (way : Direction) (k : ℕ) → k ≤ side way l r → k ≤ room way (ungap l r s)
   enough Left k h = rw length-left h
   enough Right k h = rw length-right h
 
@@ -164,9 +147,8 @@ module _ {l r : ℕ} {s : List ℕ} (gap : IsGap l r s) where
     pub deletes : patch (from way (length s) l r k) (zeros k) s ≡ gapped (length s) (times (delete way) k (ungap l r s))
     deletes = vacated gap-deleted
 
-    pub removes : (m : ℕ) → lent way l r k s ++ zeros (m - length (lent way l r k s)) ≡ paired m (removed way k (ungap l r s))
-    unfolding part
-    removes m = rw (stretch way (length s) l r k h, taken gap-deleted) (alone way k (ungap l r s) m)
+    removes : (m : ℕ) → part (from way (length s) l r k) k s ++ zeros (m - k) ≡ paired m (removed way k (ungap l r s))
+    removes m = rw (taken gap-deleted) (rw (gap-deleted .size) at (alone way k (ungap l r s) m))
 
   gap-inserted : (p : Doc) → l + r + (length (p .l) + length (p .r)) ≤ length s
       → patch (length s - r - length (p .r)) (p .r) (patch l (p .l) s) ≡ gapped (length s) (splice 0 0 p (ungap l r s))
@@ -187,29 +169,21 @@ module _ {l r : ℕ} {s : List ℕ} (gap : IsGap l r s) where
       let second : length (take y (drop x pair)) ≡ y = length-part x y pair within in
       rw (part-lent x y pair within) (rw second at (gap-inserted (unpair x y pair) (rw (first, second) h)))
 
--- A pair store gets the one text, then the other behind it, and is cleared from there on.
-module _ (l r : ℕ) (p : Doc) (left : length (p .l) ≡ l) (right : length (p .r) ≡ r) (old front both t : List ℕ) (fits : l + r ≤ length old)
-    (first : front ≡ p .l ++ drop (length (p .l)) old) (second : both ≡ patch l (p .r) front) where
-  texts-first : both ≡ (p .l ++ p .r) ++ drop (l + r) old
-  unfolding patch
-  texts-first =
-      let rest : List ℕ = drop l old in
-      rw (second, first, left, take-at (p .l) rest l left, drop-at (p .l) rest l left, right, drop-drop, append-assoc)
+-- What the routine makes of it and of a pair store of m bytes, if it clears those bytes and the pair store then holds them alone.
+pub cuts : (way : Direction) {l r k m : ℕ} {s t pair : List ℕ} → IsGap l r s × ((k ≤ side way l r) × (k ≤ m))
+    → (t ≡ patch (from way (length s) l r k) (zeros k) s) × (pair ≡ part (from way (length s) l r k) k s ++ zeros (m - k))
+    → (t ≡ gapped (length s) (times (delete way) k (ungap l r s))) × (pair ≡ paired m (removed way k (ungap l r s)))
+cuts way asked made =
+    (made .0 ∙ deletes (asked .0) way _ (asked .1 .0), made .1 ∙ removes (asked .0) way _ (asked .1 .0) _)
 
-  pair-held : t ≡ zeros (length (tailOf (l + r) both)) → putTail (l + r) both t ≡ paired (length old) p
-  unfolding paired
-  pair-held cleared =
-      let size : length (p .l ++ p .r) ≡ l + r = rw (length-append, left, right) in
-      let same : length both ≡ length old = rw (texts-first, length-append, size, length-drop) (omega arith) in
-      tail-cleared (l + r) both t cleared
-      ∙ rw (same, texts-first, take-at (p .l ++ p .r) _ (l + r) size, left, right, append-assoc)
-
--- The texts of a gap store, handed over in that way.
-pub hands-over : (l r : ℕ) (s old front both t : List ℕ) → l + r ≤ length s → l + r ≤ length old
-    → front ≡ take l s ++ drop (length (take l s)) old → both ≡ patch l (tailOf (length s - r) s) front
-    → t ≡ zeros (length (tailOf (l + r) both)) → putTail (l + r) both t ≡ paired (length old) (ungap l r s)
-unfolding ungap
-hands-over l r s old front both t within fits first second cleared =
+-- A pair store that holds the one text of a gap store gets the other behind it.
+pub hands-over : (l r : ℕ) (s old front : List ℕ) → l + r ≤ length s → l + r ≤ length old
+    → front ≡ take l s ++ zeros (length old - length (take l s))
+    → patch l (tailOf (length s - r) s) front ≡ paired (length old) (ungap l r s)
+unfolding ungap paired
+hands-over l r s old front within fits first =
     let left : length (take l s) ≡ l = length-take-le l s (omega arith) in
     let right : length (drop (length s - r) s) ≡ r = length-drop (length s - r) s ∙ omega arith in
-    pair-held l r (ungap l r s) left right old front both t fits first (rw tail-lent at second) cleared
+    let rest : length old - l ≡ r + (length old - (l + r)) = omega arith in
+    rw (first, tail-lent, left, right, rest, ← zeros-both)
+    (patch-middle (take l s) (zeros r) _ (drop (length s - r) s) l left (length-zeros r ∙ sym right))

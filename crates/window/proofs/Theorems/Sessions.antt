@@ -24,7 +24,7 @@ use Rattle.window.proofs.Theorems.Refusals.{opening-accepted, opening-d
 use Rattle.window.proofs.Laws.Window.{length-window}
 
 -- A cursor at the beginning is visible at the start.
-start-seen : (H W : ℕ) (text : List ℕ) → 1 ≤ H → visible (start H W) (record { l = []; r = text }) ≡ true
+pub start-seen : (H W : ℕ) (text : List ℕ) → 1 ≤ H → visible (start H W) (record { l = []; r = text }) ≡ true
 unfolding visible newlines sinceAfter
 start-seen H W text h =
     let row : 1 ≤ 0 + H = omega arith in

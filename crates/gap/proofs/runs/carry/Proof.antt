@@ -1,67 +1,44 @@
--- `carry` patches twice: zeros where the block stood, and then the block, which was copied out before, where it goes.
+-- `carry` patches twice: zeros where the block stood, and then the block, which was taken out, where it goes.
 use mathlib.Core.Path.{sym, ap₂, _∙_}
 use native.Mathlib.Omega.{arith}
 use lib.Seq.{length-take-le}
 use borrow.Author.Needs.{needs}
 use Rattle.gap.specs.Sequence.{patch}
-use Rattle.gap.proofs.Laws.Runs.{part-copied}
+use Rattle.gap.proofs.Laws.Runs.{part-front}
 use Rattle.gap.proofs.runs.carry.Statement.{statement}
 use Rattle.gap.proofs.runs.carry.Tie as tie
 
-add-end : tie.Need-add-end
-add-end c = search needs
+slice-aggregate-take-out : tie.Need-slice-aggregate-take-out
+slice-aggregate-take-out c = search needs
 
-slice-aggregate-copy-front : tie.Need-slice-aggregate-copy-front
-slice-aggregate-copy-front c = search needs
-
-sub-copy-front : tie.Need-sub-copy-front
-sub-copy-front c = search needs
-
-part-copy-front-start : tie.Need-part-copy-front-start
-part-copy-front-start c = search needs
-
-part-copy-front-end : tie.Need-part-copy-front-end
-part-copy-front-end c = search needs
-
-copy-front-requires : tie.Need-copy-front-requires
-copy-front-requires c κs = search needs
-
-vacate-requires : tie.Need-vacate-requires
-vacate-requires c κs = search needs
+take-out-requires : tie.Need-take-out-requires
+take-out-requires c κs = search needs
 
 array-share-prefix-block : tie.Need-array-share-prefix-block
 array-share-prefix-block c = search needs
 
 slice-aggregate-copy-at : tie.Need-slice-aggregate-copy-at
-slice-aggregate-copy-at c =
-    let copied = c .before .before .before .before .before .before .before in
-    sym (length-take-le _ _ (omega (arith, copied .copy-front .kept .0)))
+slice-aggregate-copy-at c = sym (length-take-le _ _ (omega (arith, c .before .before .before .before .before .take-out .kept)))
 
 copy-at-requires : tie.Need-copy-at-requires
-copy-at-requires c κs = rw (sym (slice-aggregate-copy-at c)) (omega (arith, c .before .before .before .before .vacate .kept .0))
+copy-at-requires c κs = rw (sym (slice-aggregate-copy-at c)) (omega (arith, c .before .before .before .before .before .take-out .kept))
 
 same-length : tie.Need-same-length
 same-length c = search needs
 
 returns : tie.Need-returns
 returns c =
-    let cleared = c .before .before .before .before .before .before .before in
-    let copied = cleared .before .before .before in
-    let start = copied .before .before .before .before .before in
-    c .before .before .copy-at .ensures
-    ∙ ap₂ (patch _) (part-copied _ _ _ (start .pre .1 .0) _ _ (copied .copy-front .ensures)) (cleared .vacate .ensures)
+    let taken = c .before .before .before .before .before .before .before .before in
+    let pre = taken .before .before .before .before .pre in
+    let (cleared, holds) = taken .take-out .ensures in
+    c .before .before .copy-at .ensures ∙ ap₂ (patch _) (part-front _ _ _ (pre .1 .0) _ _ holds) cleared
 
 pub carry-spec : {M : Type 1} → statement M
 carry-spec =
     tie.close
     (tie.spec
-    add-end
-    slice-aggregate-copy-front
-    sub-copy-front
-    part-copy-front-start
-    part-copy-front-end
-    copy-front-requires
-    vacate-requires
+    slice-aggregate-take-out
+    take-out-requires
     array-share-prefix-block
     slice-aggregate-copy-at
     copy-at-requires

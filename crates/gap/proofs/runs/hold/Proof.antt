@@ -1,4 +1,4 @@
--- `hold` leaves the run and zeros: the run is copied to the front, and the part behind it comes back cleared.
+-- `hold` leaves the run and zeros: the run is copied to the front, and everything behind it is cleared.
 use borrow.Author.Needs.{needs}
 use Rattle.gap.proofs.Laws.Runs.{held}
 use Rattle.gap.proofs.runs.hold.Statement.{statement}
@@ -7,17 +7,8 @@ use Rattle.gap.proofs.runs.hold.Tie as tie
 copy-front-requires : tie.Need-copy-front-requires
 copy-front-requires c κs = search needs
 
-sub-clear : tie.Need-sub-clear
-sub-clear c = search needs
-
-part-clear-start : tie.Need-part-clear-start
-part-clear-start c = search needs
-
-part-clear-end : tie.Need-part-clear-end
-part-clear-end c = search needs
-
-clear-requires : tie.Need-clear-requires
-clear-requires c κs = search needs
+clear-from-requires : tie.Need-clear-from-requires
+clear-from-requires c κs = search needs
 
 same-length : tie.Need-same-length
 same-length c = search needs
@@ -26,16 +17,8 @@ returns : tie.Need-returns
 returns c =
     let copied = c .before .before .before .before .before .before in
     let start = copied .before .before .before .before in
-    held (start .args .run .now) (start .args .s .now) _ _ (start .pre) (copied .copy-front .ensures) (c .before .before .clear .ensures)
+    held (start .args .run .now) (start .args .s .now) _ _ (copied .copy-front .kept .0) (copied .copy-front .ensures)
+    (c .before .before .clear-from .ensures)
 
 pub hold-spec : {M : Type 1} → statement M
-hold-spec =
-    tie.close
-    (tie.spec
-    copy-front-requires
-    sub-clear
-    part-clear-start
-    part-clear-end
-    clear-requires
-    same-length
-    returns)
+hold-spec = tie.close (tie.spec copy-front-requires clear-from-requires same-length returns)

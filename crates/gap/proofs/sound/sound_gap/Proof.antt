@@ -1,71 +1,25 @@
--- `sound::sound_gap` meets its contract: lengths that do not fit fail the test, and where they fit it is the tests of the parts.
-use mathlib.Core.Path.{sym}
+-- `sound_gap`: lengths that do not fit fail the test, and where they fit it is the test of the parts.
 use native.Mathlib.Omega.{arith}
-use lib.Seq.{length-take-le}
 use borrow.Author.Needs.{needs}
 use Rattle.gap.proofs.Laws.StoreTests.{long-gap, gap-parts}
 use Rattle.gap.proofs.sound.sound_gap.Statement.{statement}
 use Rattle.gap.proofs.sound.sound_gap.Tie as tie
 
+fit-requires : tie.Need-fit-requires
+fit-requires c κs = search needs
+
+sub-free-between : tie.Need-sub-free-between
+sub-free-between c = omega (arith, c .before .fit .ensures .0 (c .if1 .taken))
+
+free-between-requires : tie.Need-free-between-requires
+free-between-requires c κs = omega (arith, c .before .fit .ensures .0 (c .if1 .taken))
+
 returns : tie.Need-returns
-returns c = long-gap _ _ _ (omega arith)
+returns c = gap-parts _ _ _ (c .before .before .fit .ensures .0 (c .before .if1 .taken)) (c .free-between .ensures)
 
 returns-2 : tie.Need-returns-2
-returns-2 c = long-gap _ _ _ (omega arith)
-
-sub-back : tie.Need-sub-back
-sub-back c = search needs
-
-slice-aggregate-all-allowed : tie.Need-slice-aggregate-all-allowed
-slice-aggregate-all-allowed c = sym (length-take-le _ _ (omega arith))
-
-all-allowed-requires : tie.Need-all-allowed-requires
-all-allowed-requires c κs = search needs
-
-sub-all-allowed : tie.Need-sub-all-allowed
-sub-all-allowed c = search needs
-
-part-all-allowed-start : tie.Need-part-all-allowed-start
-part-all-allowed-start c = search needs
-
-part-all-allowed-end : tie.Need-part-all-allowed-end
-part-all-allowed-end c = search needs
-
-all-allowed-requires-2 : tie.Need-all-allowed-requires-2
-all-allowed-requires-2 c κs = search needs
-
-sub-all-free : tie.Need-sub-all-free
-sub-all-free c = search needs
-
-part-all-free-start : tie.Need-part-all-free-start
-part-all-free-start c = search needs
-
-part-all-free-end : tie.Need-part-all-free-end
-part-all-free-end c = search needs
-
-all-free-requires : tie.Need-all-free-requires
-all-free-requires c κs = search needs
-
-returns-3 : tie.Need-returns-3
-returns-3 c =
-    gap-parts _ _ _ (omega arith) (c .before .before .before .before .all-allowed .ensures) (c .before .before .all-allowed2 .ensures)
-    (c .all-free .ensures)
+returns-2 c = long-gap _ _ _ (c .before .fit .ensures .1 (c .if1 .left))
 
 pub sound-gap-spec : {M : Type 1} → statement M
 sound-gap-spec =
-    tie.close
-    (tie.spec
-    returns
-    returns-2
-    sub-back
-    slice-aggregate-all-allowed
-    all-allowed-requires
-    sub-all-allowed
-    part-all-allowed-start
-    part-all-allowed-end
-    all-allowed-requires-2
-    sub-all-free
-    part-all-free-start
-    part-all-free-end
-    all-free-requires
-    returns-3)
+    tie.close (tie.spec fit-requires sub-free-between free-between-requires returns returns-2)

@@ -1,5 +1,5 @@
--- `hand_over` puts one text behind the other and clears what follows.
-use mathlib.Core.Path.{sym}
+-- `hand_over` has the pair store hold the one text, and copies the other behind it.
+use mathlib.Core.Path.{sym, _∙_}
 use native.Mathlib.Omega.{arith}
 use lib.Seq.{length-take-le}
 use borrow.Author.Needs.{needs}
@@ -10,14 +10,11 @@ use Rattle.gap.proofs.texts.hand_over.Tie as tie
 sub-back : tie.Need-sub-back
 sub-back c = search needs
 
-add-used : tie.Need-add-used
-add-used c = search needs
+slice-aggregate-hold : tie.Need-slice-aggregate-hold
+slice-aggregate-hold c = sym (length-take-le _ _ (omega arith))
 
-slice-aggregate-copy-front : tie.Need-slice-aggregate-copy-front
-slice-aggregate-copy-front c = sym (length-take-le _ _ (omega arith))
-
-copy-front-requires : tie.Need-copy-front-requires
-copy-front-requires c κs = rw (sym (slice-aggregate-copy-front c)) (omega arith)
+hold-requires : tie.Need-hold-requires
+hold-requires c κs = rw (sym (slice-aggregate-hold c)) (omega arith)
 
 sub-copy-at : tie.Need-sub-copy-at
 sub-copy-at c = search needs
@@ -31,44 +28,25 @@ part-copy-at-end c = search needs
 copy-at-requires : tie.Need-copy-at-requires
 copy-at-requires c κs = search needs
 
-sub-clear : tie.Need-sub-clear
-sub-clear c = search needs
-
-part-clear-start : tie.Need-part-clear-start
-part-clear-start c = search needs
-
-part-clear-end : tie.Need-part-clear-end
-part-clear-end c = search needs
-
-clear-requires : tie.Need-clear-requires
-clear-requires c κs = search needs
-
 same-length : tie.Need-same-length
 same-length c = search needs
 
 returns : tie.Need-returns
 returns c =
-    let second = c .before .before .before .before .before .before in
-    let first = second .before .before .before .before .before in
-    let start = first .before .before .before .before .before in
-    hands-over _ _ (start .args .s .now) (start .args .pair .now) _ _ _ (start .pre .0) (start .pre .1)
-    (first .copy-front .ensures) (second .copy-at .ensures) (c .before .before .clear .ensures)
+    let held = c .before .before .before .before .before .before .before in
+    let start = held .before .before .before .before .before in
+    c .before .before .copy-at .ensures ∙ hands-over _ _ _ (start .args .pair .now) _ (start .pre .0) (start .pre .1) (held .hold .ensures)
 
 pub hand-over-spec : {M : Type 1} → statement M
 hand-over-spec =
     tie.close
     (tie.spec
     sub-back
-    add-used
-    slice-aggregate-copy-front
-    copy-front-requires
+    slice-aggregate-hold
+    hold-requires
     sub-copy-at
     part-copy-at-start
     part-copy-at-end
     copy-at-requires
-    sub-clear
-    part-clear-start
-    part-clear-end
-    clear-requires
     same-length
     returns)

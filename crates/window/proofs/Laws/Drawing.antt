@@ -1,0 +1,184 @@
+-- Laws of the painter's loops over a text: the run up to a newline, a text drawn run by run, and the lines that end below it.
+use mathlib.Core.Path.{_≡_, refl, sym, ap, _∙_}
+use mathlib.Core.Bool.{true, false, not}
+use mathlib.Core.List.{List, [], _∷_, _++_}
+use Prim.Native.Nat.{ℕ, suc, _+_, _-_, _≤_, _<_}
+use native.Mathlib.Numerals.{add-one}
+use native.Mathlib.Omega.{arith}
+use lib.Dec.{eqb}
+use lib.ListN.{length, take, drop, getD, take-append-drop, drop-of-length-le, length-drop}
+use lib.Seq.{drop-cons, drop-drop, getD-drop, take-suc}
+use borrow.Author.Tests.{ne-eqb, ltb-false, le-ltb, le-leb, lt-leb}
+use borrow.Rule.Slice.PartMut.{midOf}
+use Rattle.gap.specs.Sequence.{every, part}
+use Rattle.gap.specs.Doc.{times}
+use Rattle.gap.specs.Lines.{newline}
+use Rattle.gap.proofs.Laws.Sequence.{every-both, length-part}
+use Rattle.window.specs.Words.{Frame}
+use Rattle.window.specs.Painter.{Painting, above, over, lineEnd, paint, finishPaint, RunEnd, Easel}
+use Rattle.window.proofs.Laws.Paint.{InRow, in-row, paint-append, paint-over, easel-on, easel-less}
+use Rattle.window.proofs.Laws.PaintedRun.{Run}
+use Rattle.window.proofs.Laws.DrawnCells.{Inside, row-end, run-row}
+
+-- A run without newline was followed from place i up to e.
+pub record Followed (t : List ℕ) (i e : ℕ) : Type 0 where
+  pub low : i ≤ e
+  pub high : e ≤ length t
+  pub unbroken : every (λ b. not (eqb b newline)) (part i (e - i) t) ≡ true
+
+-- A part grows by the byte behind it.
+part-more : (i e : ℕ) (t : List ℕ) → i ≤ e → e < length t → part i (e + 1 - i) t ≡ part i (e - i) t ++ (getD t e 0 ∷ [])
+unfolding part
+part-more i e t low more =
+    let one : e + 1 - i ≡ suc (e - i) = omega arith in
+    let here : i + (e - i) ≡ e = omega arith in
+    ap (λ k. take k (drop i t)) one
+    ∙ take-suc (drop i t) (e - i) 0 (rw length-drop (omega arith))
+    ∙ ap (λ b. take (e - i) (drop i t) ++ (b ∷ [])) (getD-drop i t (e - i) 0 ∙ ap (λ k. getD t k 0) here)
+
+module _ (t : List ℕ) (i : ℕ) where
+  pub followed-none : i ≤ length t → Followed t i i
+  unfolding part every
+  followed-none within = let none : i - i ≡ 0 = omega arith in record { low = omega arith; high = within; unbroken = rw none }
+
+  module _ (e : ℕ) (so-far : Followed t i e) where
+    pub followed-more : e < length t → (getD t e 0 ≡ newline → ⊥) → Followed t i (e + 1)
+    unfolding every
+    followed-more more other = record {
+      low = omega (arith, so-far .low);
+      high = omega arith;
+      unbroken =
+          let last = getD t e 0 ∷ [] in
+          rw (part-more i e t (so-far .low) more)
+          (every-both (λ b. not (eqb b newline)) (part i (e - i) t) last (so-far .unbroken) (rw (ne-eqb (getD t e 0) newline other)));
+    }
+
+    pub followed-all : (e < length t → getD t e 0 ≡ newline) → RunEnd t i e
+    followed-all stop = record { low = so-far .low; high = so-far .high; unbroken = so-far .unbroken; stop = stop }
+
+-- A text from place i on, cut at a later place.
+split-at : (i e : ℕ) (t : List ℕ) → i ≤ e → drop i t ≡ midOf i (e - i) t ++ drop e t
+split-at i e t later =
+    let behind : i + (e - i) ≡ e = omega arith in
+    let onward : drop (e - i) (drop i t) ≡ drop e t = rw (drop-drop, behind) in
+    sym (rw (← onward) (take-append-drop (e - i) (drop i t)))
+
+-- A text was drawn up to place i: what is left of it decides.
+pub record Drawn (f : Frame) (t : List ℕ) (first : Painting) (i : ℕ) (p : Painting) : Type 0 where
+  pub within : i ≤ length t
+  pub easel : Easel f (length t - i) p
+  pub top : above f (p .pen) ≡ false
+  pub rest : paint f t first ≡ paint f (drop i t) p
+
+-- The same with the pen in a row of the window.
+pub record DrawnInRow (f : Frame) (t : List ℕ) (first : Painting) (i : ℕ) (p : Painting) : Type 0 where
+  pub drawn : Drawn f t first i p
+  pub bottom : p .pen .y < f .r + f .h
+
+pub drawn-in-row : {f : Frame} {t : List ℕ} {first : Painting} {i : ℕ} {p : Painting} → Drawn f t first i p → p .pen .y < f .r + f .h
+    → DrawnInRow f t first i p
+drawn-in-row so-far bottom = record { drawn = so-far; bottom = bottom }
+
+pub drawn-none : {f : Frame} {t : List ℕ} {p : Painting} → Easel f (length t) p → above f (p .pen) ≡ false → Drawn f t p 0 p
+drawn-none {f} {t} {p} easel top =
+    record { within = omega arith; easel = easel-less f (length t) (length t - 0) p (omega arith) easel; top = top; rest = refl }
+
+module _ {f : Frame} {t : List ℕ} {first : Painting} {i : ℕ} {p : Painting} where
+  pub drawn-over : Drawn f t first i p → f .r + f .h ≤ p .pen .y → p ≡ paint f t first
+  drawn-over so-far low = sym (so-far .rest ∙ paint-over f p (le-leb (f .r + f .h) (p .pen .y) low) (drop i t))
+
+  pub drawn-all : Drawn f t first i p → length t ≤ i → p ≡ paint f t first
+  unfolding paint
+  drawn-all so-far end = sym (so-far .rest ∙ rw drop-of-length-le)
+
+  module _ (so-far : DrawnInRow f t first i p) where
+    tests : Inside f p
+    tests = (so-far .drawn .top, lt-leb (f .r + f .h) (p .pen .y) (so-far .bottom))
+
+    inside : InRow f (p .pen .y) (p .screen)
+    inside = in-row f p (so-far .drawn .easel .long) (tests .0) (tests .1)
+
+    -- The run from there on is drawn.
+    module _ {e : ℕ} (run : RunEnd t i e) where
+      size : length (midOf i (e - i) t) ≡ e - i
+      unfolding part
+      size = length-part i (e - i) t (omega (arith, run .low, run .high))
+
+      unbroken : Run (midOf i (e - i) t)
+      unfolding part
+      unbroken = run .unbroken
+
+      pub run-asks : (Run (midOf i (e - i) t)) × ((Easel f (length (midOf i (e - i) t)) p) × Inside f p)
+      run-asks =
+          let shorter : length (midOf i (e - i) t) ≤ length t - i = omega (arith, size, run .high) in
+          (unbroken, (easel-less f (length t - i) _ p shorter (so-far .drawn .easel), tests))
+
+      pub drawn-run : {q : Painting} → q ≡ paint f (midOf i (e - i) t) p → DrawnInRow f t first e q
+      drawn-run {q} painted =
+          let bytes = midOf i (e - i) t in
+          let line : q .pen .y ≡ p .pen .y = ap (λ s. s .pen .y) painted ∙ run-row f bytes p inside unbroken in
+          let all : length bytes + (length t - e) ≤ length t - i = omega (arith, size, run .low, run .high) in
+          let onward = paint-append f bytes (drop e t) p ∙ ap (paint f (drop e t)) (sym painted) in
+          record {
+            drawn = record {
+              within = run .high;
+              easel = rw painted (easel-on f bytes (length t - e) p (easel-less f (length t - i) _ p all (so-far .drawn .easel)));
+              top = rw line (so-far .drawn .top);
+              rest = so-far .drawn .rest ∙ ap (λ s. paint f s p) (split-at i e t (run .low)) ∙ onward;
+            };
+            bottom = rw line (so-far .bottom);
+          }
+
+    -- The line ends there.
+    pub line-asks : i < length t → (Easel f 1 p) × Inside f p
+    line-asks more = (easel-less f (length t - i) 1 p (omega arith) (so-far .drawn .easel), tests)
+
+    pub drawn-line : {q : Painting} → i < length t → getD t i 0 ≡ newline → q ≡ lineEnd f p → Drawn f t first (i + 1) q
+    unfolding paint
+    drawn-line more e ended =
+        let all : 1 + (length t - (i + 1)) ≤ length t - i = omega arith in
+        record {
+          within = omega arith;
+          easel = rw ended (easel-on f (newline ∷ []) (length t - (i + 1)) p (easel-less f (length t - i) _ p all (so-far .drawn .easel)));
+          top = rw (ended, row-end f p inside) (le-ltb (p .pen .y + 1) (f .r) (omega (arith, inside .top)));
+          rest = so-far .drawn .rest ∙ rw (drop-cons t i 0 more, e, add-one, ended);
+        }
+
+-- The lines before y have ended: those that are left decide.
+pub record Finished (f : Frame) (first : Painting) (y : ℕ) (p : Painting) : Type 0 where
+  pub line : p .pen .y ≡ y
+  pub top : above f (p .pen) ≡ false
+  pub easel : Easel f (f .r + f .h + 1 - y) p
+  pub rest : finishPaint f first ≡ times (lineEnd f) (f .r + f .h - y) p
+
+pub finished-none : {f : Frame} {p : Painting} → Easel f 65 p → above f (p .pen) ≡ false → Finished f p (p .pen .y) p
+unfolding finishPaint
+finished-none {f} {p} easel top =
+    let all : f .r + f .h + 1 - p .pen .y ≤ 65 = omega (arith, ltb-false (p .pen .y) (f .r) top, easel .rows) in
+    record { line = refl; top = top; easel = easel-less f 65 _ p all easel; rest = refl }
+
+module _ {f : Frame} {first : Painting} {y : ℕ} {p : Painting} (so-far : Finished f first y p) where
+  pub finished-all : f .r + f .h ≤ y → p ≡ finishPaint f first
+  unfolding times
+  finished-all end = let none : f .r + f .h - y ≡ 0 = omega arith in sym (so-far .rest ∙ rw none)
+
+  module _ (bottom : y < f .r + f .h) where
+    pub end-asks : (Easel f 1 p) × Inside f p
+    end-asks = (
+      easel-less f (f .r + f .h + 1 - y) 1 p (omega arith) (so-far .easel),
+      (so-far .top, lt-leb (f .r + f .h) (p .pen .y) (rw (so-far .line) bottom)),
+    )
+
+    pub finished-line : {q : Painting} → q ≡ lineEnd f p → Finished f first (y + 1) q
+    unfolding paint times
+    finished-line {q} ended =
+        let inside = in-row f p (so-far .easel .long) (end-asks .1 .0) (end-asks .1 .1) in
+        let line : q .pen .y ≡ y + 1 = ap (λ s. s .pen .y) (ended ∙ row-end f p inside) ∙ omega (arith, so-far .line) in
+        let all : 1 + (f .r + f .h + 1 - (y + 1)) ≤ f .r + f .h + 1 - y = omega arith in
+        let next : f .r + f .h - y ≡ suc (f .r + f .h - (y + 1)) = omega arith in
+        record {
+          line = line;
+          top = le-ltb (q .pen .y) (f .r) (omega (arith, inside .top));
+          easel = rw ended (easel-on f (newline ∷ []) _ p (easel-less f (f .r + f .h + 1 - y) _ p all (so-far .easel)));
+          rest = so-far .rest ∙ rw (next, ended);
+        }

@@ -1,0 +1,280 @@
+-- The key call: what its tests tell, what a refusal leaves, and that the editor's outcome shown through the window is `keyed`.
+use mathlib.Core.Path.{_≡_, refl, sym, ap, ap₂, subst, subst⁻¹, _∙_}
+use mathlib.Core.Logic.{⊎-elim}
+use mathlib.Core.Bool.{Bool, true, false, _&&_, cond}
+use mathlib.Core.List.{List, [], _∷_, _++_}
+use Prim.Native.Nat.{ℕ, suc, _+_, _-_, _*_, _^_, _≤_, _<_}
+use native.Mathlib.Nat.{le-trans, mul-le-mul-left, mul-le-mul-right}
+use native.Mathlib.Omega.{arith}
+use lib.Dec.{eqb, leb, ltb}
+use lib.ListN.{length, take, length-append, length-take}
+use borrow.Author.Tests.{leb-true, eqb-true, eq-eqb}
+use Rattle.gap.specs.Doc.{Doc}
+use Rattle.gap.specs.Lines.{newline, newlines, sinceAfter}
+use Rattle.gap.specs.Layout.{ungap}
+use Rattle.gap.proofs.Laws.Tests.{decided, clash, and-left, and-right, and-both, cond-true, cond-false}
+use Rattle.gap.proofs.Laws.Layout.{length-gapped}
+use Rattle.editor.specs.declared.Reply.{Reply as editorReply}
+use Rattle.editor.specs.Plain.{Plain, Did, Outcome, refused, done, SIZE, SESSION, KEY, FULL}
+use Rattle.editor.specs.Keys.{key}
+use Rattle.editor.specs.Bytes.{Stores, quarter, quarterOf, sized, plainOf, lengthsOf, storesOf, editorOk, editedTo}
+use Rattle.editor.specs.Promise.{Sound, stores, replied}
+use Rattle.editor.proofs.Laws.Fitting.{fitting}
+use Rattle.editor.proofs.Laws.Sound.{SoundPlain}
+use Rattle.editor.proofs.Theorems.Layouts.{plain-of-encoded, session-encoded, encoded-sized, encoded-ok}
+use Rattle.editor.proofs.Theorems.Sessions.{key-keeps}
+use Rattle.editor.proofs.Theorems.Refusals.{refused-number}
+use Rattle.window.specs.Words.{Lengths, Frame, Session, Key, Mode, Main, Quoted}
+use Rattle.window.specs.declared.Spot.{Spot}
+use Rattle.window.specs.declared.Pen.{Pen}
+use Rattle.window.specs.declared.Reply.{Reply}
+use Rattle.window.specs.Window.{virtual, virtualIn, rowOf, columnOf, window, visible, policy}
+use Rattle.window.specs.Core.{Lent, Called, T, rowsAndColumns, tabled, isSession, turnedDown, shown, finished, keyed, held, lentOf}
+use Rattle.window.specs.Rows.{firstRow, lastRow}
+use Rattle.window.specs.Painter.{Canvas}
+use Rattle.window.specs.Calls.{spotIn, visibleAt, policyAt, Texts, virtualHeld, Refreshed, lent, called, reported}
+use Rattle.window.proofs.Laws.Window.{policy-visible, Visible, visible-says}
+use Rattle.window.proofs.Laws.Views.{Tabled, tabled-facts, session-view}
+use Rattle.window.proofs.Theorems.Sessions.{session-keyed}
+
+-- ---- Tests
+
+-- All lengths as tabled, by tests in another order: H and W first.
+pub not-tabled : (h w : ℕ) (b : Lent) → rowsAndColumns h w ≡ false → false ≡ tabled h w b
+unfolding tabled
+not-tabled h w b e = go (sized quarter (b .stores)) (rowsAndColumns h w) e
+  where
+    go : (sizes rows : Bool) → rows ≡ false → false ≡ (sizes && (rows && eqb (length (b .screen)) (h * w)))
+    go true rows low = sym (ap (λ t. t && eqb (length (b .screen)) (h * w)) low)
+    go false rows low = refl
+
+pub tabled-so : (h w : ℕ) (b : Lent) (sizes : Bool) → sizes ≡ sized quarter (b .stores) → rowsAndColumns h w ≡ true
+    → (sizes && eqb (length (b .screen)) (h * w)) ≡ tabled h w b
+unfolding tabled
+tabled-so h w b sizes e rows = ap₂ (λ t u. t && (u && eqb (length (b .screen)) (h * w))) e (sym rows)
+
+-- The session test, by the editor's and the cursor's.
+pub no-session : (s : Session) (b : Stores) → editorOk quarter (s .lengths) b ≡ false → false ≡ isSession s b
+unfolding isSession
+no-session s b e = sym (ap (λ t. t && visible (s .frame) (virtual (held s b))) e)
+
+pub session-so : (s : Session) (b : Stores) → editorOk quarter (s .lengths) b ≡ true
+    → (spot : Spot) → spot ≡ spotIn (virtualHeld (s .lengths) (b .text) (b .side)) → (seen : Bool) → seen ≡ visibleAt (s .frame) spot → seen ≡ isSession s b
+unfolding isSession visible plainOf
+session-so s b ok spot here seen e =
+    e ∙ (ap (visibleAt (s .frame)) here ∙ sym (ap (λ t. t && visible (s .frame) (virtual (held s b))) ok))
+
+-- H times W is small.
+pub product-small : (h w : ℕ) → rowsAndColumns h w ≡ true → h * w ≤ 16384
+product-small h w e =
+    let low-high = and-left (leb 1 h && leb h 64) _ e in
+    let tall = leb-true h 64 (and-right (leb 1 h) _ low-high) in
+    let wide = leb-true w 256 (and-right (leb 1 w) _ (and-right (leb 1 h && leb h 64) _ e)) in
+    le-trans (mul-le-mul-right w tall) (mul-le-mul-left 64 wide)
+
+-- ---- Texts, canvas and offsets
+
+module _ (n : Lengths) (t c s : List ℕ) (sound : Sound quarter n (stores t c s)) where
+  pub texts-held : Texts n t s
+  texts-held =
+      let fits = fitting quarter n (stores t c s) sound in
+      record { document = fits .document; long = fits .high; quotation = fits .quotation; quarters = fits .side }
+
+newlines-short : (s : List ℕ) → newlines s ≤ length s
+unfolding newlines
+newlines-short [] = omega arith
+newlines-short (b ∷ s) =
+    let rest = newlines-short s in
+    ⊎-elim
+    (λ e. rw (cond-true (suc (newlines s)) (newlines s) e) (omega (arith, rest)))
+    (λ e. rw (cond-false (suc (newlines s)) (newlines s) e) (omega (arith, rest)))
+    (decided (eqb b newline))
+
+since-short : (n : ℕ) (s : List ℕ) → sinceAfter n s ≤ n + length s
+unfolding sinceAfter
+since-short n [] = omega arith
+since-short n (b ∷ s) =
+    ⊎-elim
+    (λ e. rw (cond-true 0 (suc n) e) (omega (arith, since-short 0 s)))
+    (λ e. rw (cond-false 0 (suc n) e) (omega (arith, since-short (suc n) s)))
+    (decided (eqb b newline))
+
+left-short : (m : Mode) (d q : Doc) → length (virtualIn m d q .l) ≤ length (d .l) + (2 + length (q .l))
+unfolding virtualIn
+left-short Main d q = omega arith
+left-short Quoted d q = simp length-append (omega arith)
+
+front-short : (l r : ℕ) (s : List ℕ) → length (ungap l r s .l) ≤ l
+unfolding ungap
+front-short l r s = simp length-take (omega arith)
+
+-- ---- An accepted key shown
+
+-- The outcome of an accepted key, from its parts.
+abbrev pub shownAs : ℕ → Bool → ℕ → ℕ → Spot → Frame → Lengths → List ℕ → Stores → Called
+shownAs steps bell first last spot g n screen b =
+    record {
+      answer =
+          record {
+            code = 0;
+            place = 0;
+            steps = steps;
+            bell = bell;
+            first = first;
+            last = last;
+            row = spot .row - g .r;
+            column = spot .column - g .c;
+          };
+      session = record { lengths = n; frame = g };
+      lent = record { stores = b; screen = screen };
+    }
+
+-- The reply to a refused key.
+abbrev pub turnedDownReply : ℕ → Session → Reply
+turnedDownReply code s =
+    record {
+      answer = record { code = code; place = 0; steps = 0; bell = false; first = 0; last = 0; row = 0; column = 0 };
+      session = s;
+    }
+
+pub row-from-one : (d : Doc) (spot : Spot) → spot ≡ spotIn d → 1 ≤ spot .row
+row-from-one d spot here = omega (arith, ap (λ q. q .row) here)
+
+-- Frame f follows the cursor of the lent texts: the spot is the cursor's, and g shows it.
+module _ (f : Frame) (n : Lengths) (t c s scr : List ℕ) (sound : Sound quarter n (stores t c s)) (fit : tabled (f .h) (f .w) (lent t c s scr) ≡ true)
+    (spot : Spot) (here : spot ≡ spotIn (virtualHeld n t s)) where
+  module _ (g : Frame) (follows : g ≡ policyAt f spot) where
+    followed : g ≡ policy f (virtualHeld n t s)
+    unfolding policy
+    followed = follows ∙ ap (policyAt f) here
+
+    pub still-visible : visible g (virtualHeld n t s) ≡ true
+    still-visible =
+        ap (λ q. visible q (virtualHeld n t s)) followed
+        ∙ policy-visible f (virtualHeld n t s) (tabled-facts (f .h) (f .w) (lent t c s scr) fit .rows)
+
+    says : Visible g (rowOf (virtualHeld n t s)) (columnOf (virtualHeld n t s))
+    says = visible-says g (virtualHeld n t s) still-visible
+
+    pub offset-row : g .r ≤ spot .row
+    offset-row = omega (arith, ap (λ q. q .row) here, says .top)
+
+    pub offset-column : g .c ≤ spot .column
+    offset-column = omega (arith, ap (λ q. q .column) here, says .left)
+
+    pub shown-canvas : Canvas g (length t) scr
+    unfolding quarter
+    shown-canvas =
+        let facts = tabled-facts (f .h) (f .w) (lent t c s scr) fit in
+        let held = texts-held n t c s sound in
+        let d = virtualHeld n t s in
+        let left = left-short (n .mode) (ungap (n .main .l) (n .main .r) t) (ungap (n .quoted .l) (n .quoted .r) (quarterOf quarter 0 s)) in
+        let document = front-short (n .main .l) (n .main .r) t in
+        let quotation = front-short (n .quoted .l) (n .quoted .r) (quarterOf quarter 0 s) in
+        let tall = leb-true (f .h) 64 (and-right (leb 1 (f .h)) _ (and-left (leb 1 (f .h) && leb (f .h) 64) _ (facts .frame))) in
+        let wide = leb-true (f .w) 256 (and-right (leb 1 (f .w)) _ (and-right (leb 1 (f .h) && leb (f .h) 64) _ (facts .frame))) in
+        let rows : g .h ≡ f .h = ap (λ q. q .h) follows in
+        let columns : g .w ≡ f .w = ap (λ q. q .w) follows in
+        record {
+          long = facts .long ∙ sym (ap₂ (λ h w. h * w) rows columns);
+          rows = omega (arith, rows, tall);
+          columns = omega (arith, columns, wide);
+          offsets = (
+            omega (arith, says .top, newlines-short (d .l), left, document, quotation, held .document, held .long, held .quotation),
+            omega (arith, says .left, since-short 0 (d .l), left, document, quotation, held .document, held .long, held .quotation),
+          );
+          short = omega (arith, held .long);
+        }
+
+    -- The reply is what the definition shows.
+    pub shows-so : (steps : ℕ) (bell : Bool) (pen : Pen) (new : List ℕ) → Refreshed g (virtualHeld n t s) scr pen new
+        → shownAs steps bell (pen .first) (pen .last) spot g n new (stores t c s)
+        ≡ shown f (lent t c s scr) (record { state = plainOf quarter n (stores t c s); steps = steps; bell = bell })
+    unfolding shown plainOf policy
+    shows-so steps bell pen new fresh =
+        let d = virtualHeld n t s in
+        let encoded = session-encoded quarter n (stores t c s) (sound .tabled) (sound .ok) in
+        let first = fresh .first ∙ ap (λ q. firstRow (q .h) (q .w) scr (window q d)) followed in
+        let last = fresh .last ∙ ap (λ q. lastRow (q .h) (q .w) scr (window q d)) followed in
+        let screen = fresh .screen ∙ ap (λ q. window q d) followed in
+        λ i. shownAs steps bell (first i) (last i) (here i) (followed i) (sym (encoded .lengths) i) (screen i) (sym (encoded .stores) i)
+
+-- ---- The editor's outcome
+
+-- What the editor's reply and stores are, by the plain editor's outcome.
+module _ (n : Lengths) (b after : Stores) (r : editorReply) where
+  refused-reply : (code : ℕ) → replied r after ≡ editedTo quarter n b (refused code) → (r .code ≡ code) × (after ≡ b)
+  refused-reply code e = (ap (λ q. q .code) e, ap (λ q. q .stores) e)
+
+  done-reply : (did : Did Plain) → replied r after ≡ editedTo quarter n b (done did)
+      → (r .lengths ≡ lengthsOf (did .state)) × (after ≡ storesOf (length (b .text)) quarter (did .state)) × (r .steps ≡ did .steps) × (r .bell ≡ did .bell)
+  done-reply did e = (ap (λ q. q .lengths) e, ap (λ q. q .stores) e, ap (λ q. q .steps) e, ap (λ q. q .bell) e)
+
+-- A key refused before the editor is asked.
+pub refused-size : (s : Session) (k : Key) (b : Lent) → tabled (s .frame .h) (s .frame .w) b ≡ false
+    → (r : Reply) → r ≡ turnedDownReply SIZE s → called r b ≡ keyed s k b
+unfolding keyed
+refused-size s k b e r same = ap (λ q. called q b) same ∙ sym (cond-false _ _ e)
+
+pub refused-session : (s : Session) (k : Key) (b : Lent) → tabled (s .frame .h) (s .frame .w) b ≡ true → isSession s (b .stores) ≡ false
+    → (r : Reply) → r ≡ turnedDownReply SESSION s → called r b ≡ keyed s k b
+unfolding keyed
+refused-session s k b fit e r same = ap (λ q. called q b) same ∙ sym (cond-true _ _ fit ∙ cond-false _ _ e)
+
+-- A session is sound for the editor.
+pub session-sound : (s : Session) (b : Lent) → tabled (s .frame .h) (s .frame .w) b ≡ true → isSession s (b .stores) ≡ true
+    → Sound quarter (s .lengths) (b .stores)
+unfolding isSession
+session-sound s b fit ok = record { tabled = tabled-facts (s .frame .h) (s .frame .w) b fit .stores; ok = and-left _ _ ok }
+
+-- What is known once the editor has done a key: record and stores are sound, the sizes are as before, and showing them is `keyed`.
+pub record Accepted (s : Session) (k : Key) (b : Lent) (after : Stores) (r : editorReply) : Type 0 where
+  pub sound : Sound quarter (r .lengths) after
+  pub fit : tabled (s .frame .h) (s .frame .w) (record { stores = after; screen = b .screen }) ≡ true
+  pub shows : shown (s .frame) (record { stores = after; screen = b .screen }) (reported r after) ≡ keyed s k b
+
+module _ (s : Session) (k : Key) (b : Lent) (fit : tabled (s .frame .h) (s .frame .w) b ≡ true) (ok : isSession s (b .stores) ≡ true)
+    (after : Stores) (r : editorReply) where
+  refused-so : (o : Outcome) → replied r after ≡ editedTo quarter (s .lengths) (b .stores) o → 0 < r .code
+      → called (turnedDownReply (r .code) s) (record { stores = after; screen = b .screen }) ≡ finished s b o
+  unfolding finished
+  refused-so (refused code) e positive =
+      let (number, same) = refused-reply (s .lengths) (b .stores) after r code e in
+      λ i. called (turnedDownReply (number i) s) (record { stores = same i; screen = b .screen })
+  refused-so (done did) e positive = absurd (omega (arith, ap (λ q. q .code) e))
+
+  -- A refusal's number is above 0, so the code tells whether the key was refused.
+  pub press-refused : replied r after ≡ editedTo quarter (s .lengths) (b .stores) (key (T (b .stores)) quarter k (held s (b .stores))) → 0 < r .code
+      → (q : Reply) → q ≡ turnedDownReply (r .code) s → called q (record { stores = after; screen = b .screen }) ≡ keyed s k b
+  press-refused edits positive q same =
+      ap (λ x. called x (record { stores = after; screen = b .screen })) same
+      ∙ (refused-so (key (T (b .stores)) quarter k (held s (b .stores))) edits positive ∙ sym (session-keyed s k b fit ok))
+
+  done-so : (o : Outcome) → key (T (b .stores)) quarter k (held s (b .stores)) ≡ o
+      → replied r after ≡ editedTo quarter (s .lengths) (b .stores) o → r .code ≤ 0 → Accepted s k b after r
+  unfolding tabled shown finished storesOf
+  done-so (refused code) outcome e zero-code =
+      let number = refused-number (T (b .stores)) quarter k (held s (b .stores)) code outcome in
+      let same = refused-reply (s .lengths) (b .stores) after r code e .0 in
+      absurd (⊎-elim (λ is-key. omega (arith, is-key, same)) (λ is-full. omega (arith, is-full, same)) number)
+  done-so (done did) outcome e zero-code =
+      let (lengths, same, steps, bell) = done-reply (s .lengths) (b .stores) after r did e in
+      let facts = tabled-facts (s .frame .h) (s .frame .w) b fit in
+      let kept = key-keeps (T (b .stores)) quarter k (held s (b .stores)) did (session-view s b fit ok .good .sound) outcome in
+      let sized-so = ap (sized quarter) same ∙ encoded-sized (T (b .stores)) quarter (did .state) (facts .low) (facts .high) kept in
+      let ok-so = ap₂ (editorOk quarter) lengths same ∙ encoded-ok (T (b .stores)) quarter (did .state) kept in
+      let state = ap₂ (plainOf quarter) lengths same ∙ plain-of-encoded (T (b .stores)) quarter (did .state) kept in
+      let long = ap T same ∙ length-gapped (T (b .stores)) (did .state .main .text) (kept .text .fits) in
+      let o = shown (s .frame) (record { stores = after; screen = b .screen }) did in
+      record {
+        sound = record { tabled = sized-so; ok = ok-so };
+        fit = and-both sized-so (and-both (facts .frame) (eq-eqb _ _ (facts .long)));
+        shows =
+            ap (shown (s .frame) (record { stores = after; screen = b .screen })) (λ i. record { state = state i; steps = steps i; bell = bell i })
+            ∙ (ap (λ t. record { answer = o .answer; session = o .session; lent = lentOf t (did .state) (o .session .frame) }) long
+            ∙ (ap (finished s b) (sym outcome) ∙ sym (session-keyed s k b fit ok)));
+      }
+
+  pub press-done : replied r after ≡ editedTo quarter (s .lengths) (b .stores) (key (T (b .stores)) quarter k (held s (b .stores))) → r .code ≤ 0
+      → Accepted s k b after r
+  press-done edits zero-code = done-so (key (T (b .stores)) quarter k (held s (b .stores))) refl edits zero-code

@@ -1,0 +1,196 @@
+-- The opening call: what its tests refuse, and what a text that passes them becomes in the four stores.
+use mathlib.Core.Path.{_≡_, refl, sym, ap, ap₂, _∙_}
+use mathlib.Core.Bool.{Bool, true, false, not, _&&_, cond}
+use mathlib.Core.List.{List, [], _++_}
+use Prim.Native.Nat.{ℕ, zero, suc, _+_, _*_, _≤_, _<_}
+use native.Mathlib.Nat.{sub-zero}
+use native.Mathlib.Omega.{arith}
+use lib.Dec.{leb}
+use lib.ListN.{length, take, getD, replicate-append-replicate}
+use lib.Seq.{length-take-le, getD-take}
+use borrow.Author.Tests.{leb-true, le-leb, lt-leb, not-true, not-false}
+use Rattle.gap.specs.declared.Search.{Search}
+use Rattle.gap.specs.declared.Search.the-variants.{Reached, Nowhere}
+use Rattle.gap.specs.Sequence.{zeros}
+use Rattle.gap.specs.Doc.{Doc, empty}
+use Rattle.gap.specs.Nearest.{nearest}
+use Rattle.gap.specs.Lines.{newlines, sinceAfter}
+use Rattle.gap.specs.Layout.{allowed, gapped, paired, ungap}
+use Rattle.gap.proofs.Laws.Tests.{and-left, and-right, cond-true, cond-false}
+use Rattle.gap.proofs.Laws.Sequence.{length-zeros}
+use Rattle.gap.proofs.Laws.Layout.{length-gapped, ungap-gapped}
+use Rattle.editor.specs.Plain.{opening, SIZE, LONG, TEXT}
+use Rattle.editor.specs.Bytes.{quarter, lengthsOf, storesOf}
+use Rattle.editor.proofs.Laws.Quotation.{no-quotation}
+use Rattle.editor.proofs.Laws.Session.{measured}
+use Rattle.window.specs.Words.{Lengths}
+use Rattle.window.specs.declared.Pen.{Pen}
+use Rattle.window.specs.declared.Reply.{Reply}
+use Rattle.window.specs.Window.{virtualIn, window, visible}
+use Rattle.window.specs.Painter.{Canvas}
+use Rattle.window.specs.Core.{Lent, T, tabled, zeroRecord, start, openedText, badByte, unlessBad, opened}
+use Rattle.window.specs.Calls.{Texts, virtualHeld, Refreshed, lent, called, openingLengths}
+use Rattle.window.proofs.Laws.Views.{tabled-facts}
+use Rattle.window.proofs.Theorems.Sessions.{start-seen}
+
+-- ---- The stores of a text newly opened
+
+-- Zeros hold an empty pair, and four quarters of zeros the empty side store.
+zeros-pair : (size : ℕ) → zeros size ≡ paired size empty
+unfolding paired
+zeros-pair size = ap zeros (sym (sub-zero size))
+
+zeros-both : (k j : ℕ) → zeros (k + j) ≡ zeros k ++ zeros j
+unfolding zeros
+zeros-both k j = sym (replicate-append-replicate {A = ℕ} k j 0)
+
+pairs-twice : (Q : ℕ) → zeros (2 * Q) ≡ paired Q empty ++ paired Q empty
+pairs-twice Q =
+    let double : 2 * Q ≡ Q + Q = omega arith in
+    ap zeros double ∙ zeros-both Q Q ∙ ap₂ _++_ (zeros-pair Q) (zeros-pair Q)
+
+zeros-side : (Q : ℕ) → zeros (4 * Q) ≡ gapped Q empty ++ (paired Q empty ++ (paired Q empty ++ paired Q empty))
+zeros-side Q =
+    let four : 4 * Q ≡ 2 * Q + 2 * Q = omega arith in
+    ap zeros four ∙ zeros-both (2 * Q) (2 * Q) ∙ no-quotation Q (zeros (2 * Q))
+    ∙ ap (λ rest. gapped Q empty ++ (paired Q empty ++ rest)) (pairs-twice Q)
+
+-- What the painter asks of a screen that is as tabled, before any text.
+start-canvas : (H W : ℕ) (b : Lent) → tabled H W b ≡ true → (n : ℕ) → n ≤ 65536 → Canvas (start H W) n (b .screen)
+start-canvas H W b fit n short =
+    let facts = tabled-facts H W b fit in
+    let tall = and-left _ _ (facts .frame) in
+    let wide = and-right (leb 1 H && leb H 64) _ (facts .frame) in
+    record {
+      long = facts .long;
+      rows = leb-true _ _ (and-right (leb 1 H) _ tall);
+      columns = leb-true _ _ (and-right (leb 1 W) _ wide);
+      offsets = (omega arith, omega arith);
+      short = omega arith;
+    }
+
+module _ (n H W : ℕ) (b : Lent) (fit : tabled H W b ≡ true) (fits : n ≤ T (b .stores)) where
+  abbrev text : List ℕ
+  text = b .stores .text
+
+  -- The document: all of the text lies right of the cursor.
+  abbrev document : Doc
+  document = record { l = []; r = take n text }
+
+  size : length (take n text) ≡ n
+  size = length-take-le n text fits
+
+  short : 0 + length (take n text) ≤ T (b .stores)
+  short = omega (arith, size)
+
+  lengths-opened : openingLengths n ≡ lengthsOf (opening (take n text))
+  unfolding lengthsOf
+  lengths-opened = ap openingLengths (sym size)
+
+  -- With lengths and stores as the code leaves them.
+  module _ {m : Lengths} {textThen sideThen : List ℕ} (lengths : m ≡ openingLengths n)
+      (main : textThen ≡ gapped (T (b .stores)) document) (behind : sideThen ≡ zeros (length (b .stores .side))) where
+    holds : virtualHeld m textThen sideThen ≡ document
+    unfolding virtualIn
+    holds =
+        (λ i. virtualHeld (lengths i) (main i) (behind i))
+        ∙ ap (λ k. ungap 0 k (gapped (T (b .stores)) document)) (sym size)
+        ∙ ungap-gapped (T (b .stores)) document short
+
+    -- The painter may paint it.
+    pub refresh-asked : Texts m textThen sideThen
+        × (Canvas (start H W) (length textThen) (b .screen) × (visible (start H W) (virtualHeld m textThen sideThen) ≡ true))
+    refresh-asked =
+        let facts = tabled-facts H W b fit in
+        let sizes = measured quarter (b .stores) (facts .stores) in
+        let long : length textThen ≡ T (b .stores) = ap length main ∙ length-gapped (T (b .stores)) document short in (
+          record {
+            document = rw lengths (omega (arith, long, fits));
+            long = omega (arith, long, facts .high);
+            quotation = rw lengths (omega arith);
+            quarters = ap length behind ∙ length-zeros (length (b .stores .side)) ∙ sizes .side;
+          },
+          (
+            start-canvas H W b fit (length textThen) (omega (arith, facts .high)),
+            ap (visible (start H W)) holds ∙ start-seen H W (take n text) (facts .rows),
+          ),
+        )
+
+    -- The reply and the four stores are those of the text opened.
+    pub text-opened : {recallThen screenThen : List ℕ} {pen : Pen} → recallThen ≡ zeros (length (b .stores .recall))
+        → Refreshed (start H W) (virtualHeld m textThen sideThen) (b .screen) pen screenThen
+        → called
+        (record {
+          answer = record { code = 0; place = 0; steps = 0; bell = false; first = 1; last = H; row = 1; column = 0 };
+          session = record { lengths = m; frame = start H W };
+        })
+        (lent textThen recallThen sideThen screenThen)
+        ≡ openedText n H W b
+    unfolding openedText virtualIn newlines sinceAfter storesOf
+    text-opened cleared fresh =
+        let facts = tabled-facts H W b fit in
+        let sizes = measured quarter (b .stores) (facts .stores) in
+        let sameRecall = cleared ∙ ap zeros (sizes .recall) ∙ zeros-pair (T (b .stores)) in
+        let sameSide = behind ∙ ap zeros (sizes .side) ∙ zeros-side quarter in
+        λ i. record {
+          answer = record { code = 0; place = 0; steps = 0; bell = false; first = 1; last = H; row = 1; column = 0 };
+          session = record { lengths = (lengths ∙ lengths-opened) i; frame = start H W };
+          lent = record {
+            stores = record { text = main i; recall = sameRecall i; side = sameSide i };
+            screen = (fresh .screen ∙ ap (window (start H W)) holds) i;
+          };
+        }
+
+-- ---- The three tests
+
+-- Tests that agree on the numbers looked at find the same number.
+nearest-same : {f g : ℕ → Bool} (n k : ℕ) → ((j : ℕ) → k ≤ j → j < k + n → f j ≡ g j) → nearest f n k ≡ nearest g n k
+unfolding nearest
+nearest-same zero k same = refl
+nearest-same (suc n) k same =
+    ap₂ (λ passes further. cond passes (Reached k) further) (same k (omega arith) (omega arith))
+    (nearest-same n (suc k) (λ j low high. same j (omega arith) (omega arith)))
+
+-- The first n bytes by themselves have the bad byte that they have in the store.
+bad-byte-within : (n : ℕ) (text : List ℕ) → n ≤ length text
+    → nearest (λ i. not (allowed (getD (take n text) i 0))) (length (take n text)) 0 ≡ badByte n text
+bad-byte-within n text fits =
+    ap (λ k. nearest (λ i. not (allowed (getD (take n text) i 0))) k 0) (length-take-le n text fits)
+    ∙ nearest-same n 0 (λ j low high. ap (λ byte. not (allowed byte)) (getD-take n text j 0 (omega arith)))
+
+-- Sizes that pass the test are as tabled.
+pub stores-fit : (H W : ℕ) (b : Lent) {ok : Bool} → ok ≡ tabled H W b → not ok ≡ false → tabled H W b ≡ true
+stores-fit H W b known passed = sym known ∙ not-false _ passed
+
+-- A refused opening as the code answers it.
+abbrev unopenedReply : ℕ → ℕ → Reply
+unopenedReply code place = record {
+  answer = record { code = code; place = place; steps = 0; bell = false; first = 0; last = 0; row = 0; column = 0 };
+  session = zeroRecord;
+}
+
+-- SIZE, then LONG, then TEXT, each where the tests before it passed.
+module _ (n H W : ℕ) (b : Lent) {ok : Bool} (known : ok ≡ tabled H W b) where
+  pub size-refused : {r : Reply} → not ok ≡ true → r ≡ unopenedReply SIZE 0 → called r b ≡ opened n H W b
+  unfolding opened
+  size-refused bad e = ap (λ q. called q b) e ∙ sym (cond-false _ _ (sym known ∙ not-true _ bad))
+
+  module _ (passed : not ok ≡ false) where
+    pub long-refused : {r : Reply} → T (b .stores) < n → r ≡ unopenedReply LONG 0 → called r b ≡ opened n H W b
+    unfolding opened
+    long-refused over e = ap (λ q. called q b) e ∙ sym (cond-true _ _ (stores-fit H W b known passed) ∙ cond-false _ _ (lt-leb n _ over))
+
+    module _ {found : Search} (fits : n ≤ T (b .stores))
+        (search : found ≡ nearest (λ i. not (allowed (getD (take n (b .stores .text)) i 0))) (length (take n (b .stores .text))) 0) where
+      bytes-decide : opened n H W b ≡ unlessBad found b (openedText n H W b)
+      unfolding opened
+      bytes-decide =
+          cond-true _ _ (stores-fit H W b known passed) ∙ cond-true _ _ (le-leb n _ fits)
+          ∙ ap (λ s. unlessBad s b (openedText n H W b)) (sym (search ∙ bad-byte-within n (b .stores .text) fits))
+
+      pub text-refused : {r : Reply} (i : ℕ) → found ≡ Reached i → r ≡ unopenedReply TEXT i → called r b ≡ opened n H W b
+      text-refused i there e =
+          ap (λ q. called q b) e ∙ sym (bytes-decide ∙ ap (λ s. unlessBad s b (openedText n H W b)) there)
+
+      pub text-accepted : found ≡ Nowhere → openedText n H W b ≡ opened n H W b
+      text-accepted none = sym (bytes-decide ∙ ap (λ s. unlessBad s b (openedText n H W b)) none)

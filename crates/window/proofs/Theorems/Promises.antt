@@ -1,0 +1,63 @@
+-- The three demands as corollaries of what the two calls promise: whatever outcomes they give, if each meets its promise.
+use mathlib.Core.Path.{_≡_, refl, sym, ap, subst, _∙_}
+use mathlib.Core.Bool.{true}
+use mathlib.Core.List.{List, [], _∷_}
+use Prim.Native.Nat.{ℕ}
+use lib.ListN.{take}
+use Rattle.editor.specs.declared.Key.{Key}
+use Rattle.editor.specs.Plain.{opening}
+use Rattle.editor.specs.Keys.{key, keys, after}
+use Rattle.editor.specs.Bytes.{quarter}
+use Rattle.window.specs.Words.{Session}
+use Rattle.window.specs.Core.{Lent, Called, T, tabled, held, isSession, unopened, turnedDown, opened, keyed}
+use Rattle.window.specs.Promise.{OpenPromise, KeyPromise}
+use Rattle.window.specs.Terminal.{Bench, given, openingView, struck, typed, viewed, picture}
+use Rattle.window.proofs.Theorems.Refusals.{opening-leaves, key-leaves}
+use Rattle.window.proofs.Theorems.Sessions.{key-follows}
+use Rattle.window.proofs.Theorems.NamedRows.{Shortest}
+use Rattle.window.proofs.Theorems.DemandThree.{demand-three, key-names}
+
+-- Demand 1: a call that is refused has changed no byte, and hands back the record as document 01 says.
+pub opening-refused : (n H W : ℕ) (b : Lent) (o : Called) → OpenPromise n H W b o → (o .answer .code ≡ 0 → ⊥)
+    → o ≡ unopened b (o .answer .code) (o .answer .place)
+opening-refused n H W b o promise bad =
+    subst (λ x. (x .answer .code ≡ 0 → ⊥) → x ≡ unopened b (x .answer .code) (x .answer .place)) (sym promise) (opening-leaves n H W b) bad
+
+pub key-refused : (s : Session) (k : Key) (b : Lent) (o : Called) → KeyPromise s k b o → (o .answer .code ≡ 0 → ⊥)
+    → o ≡ turnedDown s b (o .answer .code)
+key-refused s k b o promise bad =
+    subst (λ x. (x .answer .code ≡ 0 → ⊥) → x ≡ turnedDown s b (x .answer .code)) (sym promise) (key-leaves s k b) bad
+
+-- Demand 2: on a session, record and stores handed back hold what the plain editor says of the state before.
+pub key-holds : (s : Session) (k : Key) (b : Lent) (o : Called) → KeyPromise s k b o
+    → tabled (s .frame .h) (s .frame .w) b ≡ true → isSession s (b .stores) ≡ true
+    → held (o .session) (o .lent .stores) ≡ after (held s (b .stores)) (key (T (b .stores)) quarter k (held s (b .stores)))
+key-holds s k b o promise fit ok = ap (λ x. held (x .session) (x .lent .stores)) promise ∙ key-follows s k b fit ok .holds
+
+-- Demand 3: any run of calls, each handed what the one before gave back, with the terminal given the named rows.
+pub data Run : List Key → Bench → Bench → Type 0 where
+  over : {at : Bench} → Run [] at at
+  press : {k : Key} {ks : List Key} {at end : Bench} (o : Called) → KeyPromise (at .called .session) k (at .called .lent) o
+      → Run ks (given o (at .terminal)) end → Run (k ∷ ks) at end
+
+run-typed : {ks : List Key} {at end : Bench} → Run ks at end → end ≡ typed ks at
+unfolding typed struck
+run-typed over = refl
+run-typed (press {ks = ks} {at = at} o promise run) = run-typed run ∙ ap (λ x. typed ks (given x (at .terminal))) promise
+
+module _ (n H W : ℕ) (b : Lent) (o : Called) (promise : OpenPromise n H W b o) (accepts : o .answer .code ≡ 0) where
+  pub terminal-shows : (ks : List Key) (end : Bench) → Run ks (record { called = o; terminal = o .lent .screen }) end
+      → (end .terminal ≡ picture (viewed (T (b .stores)) ks (openingView n H W b)))
+      × (viewed (T (b .stores)) ks (openingView n H W b) .plain ≡ keys (T (b .stores)) quarter ks (opening (take n (b .stores .text))))
+  terminal-shows ks end run =
+      let good = ap (λ x. x .answer .code) (sym promise) ∙ accepts in
+      let shown = demand-three n H W b good ks in
+      (ap (λ x. x .terminal) (run-typed run ∙ ap (λ x. typed ks (record { called = x; terminal = x .lent .screen })) promise) ∙ shown .0, shown .1)
+
+-- And the rows that a key call names are the shortest run that covers every changed row.
+pub rows-named : (s : Session) (k : Key) (b : Lent) (o : Called) → KeyPromise s k b o
+    → tabled (s .frame .h) (s .frame .w) b ≡ true → isSession s (b .stores) ≡ true
+    → Shortest (s .frame .h) (s .frame .w) (b .screen) (o .lent .screen) (o .answer .first) (o .answer .last)
+rows-named s k b o promise fit ok =
+    subst (λ x. Shortest (s .frame .h) (s .frame .w) (b .screen) (x .lent .screen) (x .answer .first) (x .answer .last)) (sym promise)
+    (key-names s k b fit ok)

@@ -1,0 +1,20 @@
+-- `cursor::column_offset` meets its contract: its tests are the policy's, over a difference.
+use borrow.Author.Needs.{needs}
+use Rattle.window.proofs.Laws.Spots.{policy-left, policy-right, policy-column-stays}
+use Rattle.window.proofs.cursor.column_offset.Statement.{statement}
+use Rattle.window.proofs.cursor.column_offset.Tie as tie
+
+returns : tie.Need-returns
+returns c = policy-left (c .before .args .f) _ (c .if1 .taken)
+
+sub-result : tie.Need-sub-result
+sub-result c = search needs
+
+returns-2 : tie.Need-returns-2
+returns-2 c = policy-right (c .before .before .args .f) _ (c .before .if1 .left) (c .if2 .taken)
+
+returns-3 : tie.Need-returns-3
+returns-3 c = policy-column-stays (c .before .before .args .f) _ (c .before .if1 .left) (c .if2 .left)
+
+pub column-offset-spec : {M : Type 1} → statement M
+column-offset-spec = tie.close (tie.spec returns sub-result returns-2 returns-3)

@@ -1,0 +1,117 @@
+-- `painter::draw` meets its contract: what is left of the text decides, run by run and line by line.
+use mathlib.Core.Path.{sym, _∙_}
+use Prim.Native.Nat.{_-_}
+use native.Mathlib.Omega.{arith}
+use lib.ListN.{length}
+use Rattle.window.specs.Painter.{painting}
+use Rattle.window.proofs.Laws.Drawing.{Drawn, drawn-none, drawn-in-row, drawn-run, drawn-line, drawn-over, drawn-all}
+use Rattle.window.proofs.Laws.Drawing.{run-asks, line-asks}
+use Rattle.window.proofs.painter.draw.Statement.{statement}
+use Rattle.window.proofs.painter.draw.Tie as tie
+
+abbrev Inv-loop : tie.InvT-loop
+Inv-loop f t screen₀ n bottom now₀ i₀ screen now i = Drawn f t (painting now₀ screen₀) i (painting now screen)
+
+abbrev μ-loop : tie.MeasureT-loop
+μ-loop f t screen₀ n bottom now₀ i₀ screen now i = length t - i
+
+add-bottom : tie.Need-add-bottom Inv-loop μ-loop
+add-bottom c = omega arith
+
+loop-holds : tie.Need-loop-holds Inv-loop μ-loop
+loop-holds c = drawn-none (c .before .before .before .pre .0) (c .before .before .before .pre .1)
+
+same-length : tie.Need-same-length Inv-loop μ-loop
+same-length c = c .before .before .loop .inv .easel .long ∙ sym (c .before .before .before .before .before .before .pre .0 .long)
+
+returns : tie.Need-returns Inv-loop μ-loop
+returns c = drawn-over (c .before .before .loop .inv) (c .if1 .taken)
+
+run-end-requires : tie.Need-run-end-requires Inv-loop μ-loop
+run-end-requires c κs = c .before .before .loop .inv .within
+
+sub-draw-run : tie.Need-sub-draw-run Inv-loop μ-loop
+sub-draw-run c = c .run-end .ensures .low
+
+part-draw-run-start : tie.Need-part-draw-run-start Inv-loop μ-loop
+part-draw-run-start c = omega (arith, c .run-end .ensures .low, c .run-end .ensures .high)
+
+part-draw-run-end : tie.Need-part-draw-run-end Inv-loop μ-loop
+part-draw-run-end c = c .run-end .ensures .high
+
+draw-run-requires : tie.Need-draw-run-requires Inv-loop μ-loop
+draw-run-requires c κs =
+    let found = c .before .before in
+    run-asks (drawn-in-row (found .before .before .before .loop .inv) (found .before .if1 .left)) (found .run-end .ensures)
+
+same-length-2 : tie.Need-same-length-2 Inv-loop μ-loop
+same-length-2 c =
+    let ran = c .before .before .before in
+    let found = ran .before .before .before in
+    let row = drawn-in-row (found .before .before .before .loop .inv) (found .before .if1 .left) in
+    let run = drawn-run row (found .run-end .ensures) (ran .draw-run .ensures) in
+    run .drawn .easel .long ∙ sym (found .before .before .before .before .before .before .before .pre .0 .long)
+
+returns-2 : tie.Need-returns-2 Inv-loop μ-loop
+returns-2 c =
+    let ran = c .before .before .before in
+    let found = ran .before .before .before in
+    let row = drawn-in-row (found .before .before .before .loop .inv) (found .before .if1 .left) in
+    let run = drawn-run row (found .run-end .ensures) (ran .draw-run .ensures) in
+    drawn-all (run .drawn) (c .if2 .taken)
+
+end-row-requires : tie.Need-end-row-requires Inv-loop μ-loop
+end-row-requires c κs =
+    let ran = c .before .before .before .before in
+    let found = ran .before .before .before in
+    let row = drawn-in-row (found .before .before .before .loop .inv) (found .before .if1 .left) in
+    let run = drawn-run row (found .run-end .ensures) (ran .draw-run .ensures) in
+    line-asks run (c .before .if2 .left)
+
+add-i : tie.Need-add-i Inv-loop μ-loop
+add-i c = omega (arith, c .before .before .before .before .if2 .left)
+
+loop-less : tie.Need-loop-less Inv-loop μ-loop
+loop-less c =
+    let branch = c .before .before .before .before in
+    let found = branch .before .before .before .before .before .before in
+    omega (arith, found .run-end .ensures .low, branch .if2 .left)
+
+loop-again : tie.Need-loop-again Inv-loop μ-loop
+loop-again c =
+    let branch = c .before .before .before .before in
+    let ran = branch .before .before .before in
+    let found = ran .before .before .before in
+    let row = drawn-in-row (found .before .before .before .loop .inv) (found .before .if1 .left) in
+    let run = drawn-run row (found .run-end .ensures) (ran .draw-run .ensures) in
+    drawn-line run (branch .if2 .left) (found .run-end .ensures .stop (branch .if2 .left)) (c .before .before .end-row .ensures)
+
+same-length-3 : tie.Need-same-length-3 Inv-loop μ-loop
+same-length-3 c = c .before .loop .inv .easel .long ∙ sym (c .before .before .before .before .before .pre .0 .long)
+
+returns-3 : tie.Need-returns-3 Inv-loop μ-loop
+returns-3 c = drawn-all (c .before .loop .inv) (c .loop-test .left)
+
+pub draw-spec : {M : Type 1} → statement M
+draw-spec =
+    tie.close
+    (tie.spec
+    Inv-loop
+    μ-loop
+    add-bottom
+    loop-holds
+    same-length
+    returns
+    run-end-requires
+    sub-draw-run
+    part-draw-run-start
+    part-draw-run-end
+    draw-run-requires
+    same-length-2
+    returns-2
+    end-row-requires
+    add-i
+    loop-less
+    loop-again
+    same-length-3
+    returns-3)

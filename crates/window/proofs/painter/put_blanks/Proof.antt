@@ -1,0 +1,52 @@
+-- `painter::put_blanks` meets its contract: before turn i, the first i cells are blank, and the flag tells whether all were so before.
+use Prim.Native.Nat.{_-_}
+use native.Mathlib.Omega.{arith}
+use lib.ListN.{length}
+use Rattle.window.proofs.Laws.DrawnCells.{Blanked, blanked-none, blanked-more, written-all}
+use Rattle.window.proofs.painter.put_blanks.Statement.{statement}
+use Rattle.window.proofs.painter.put_blanks.Tie as tie
+
+abbrev Inv-loop : tie.InvT-loop
+Inv-loop cells₀ same₀ i₀ cells same i = Blanked cells₀ cells same i
+
+abbrev μ-loop : tie.MeasureT-loop
+μ-loop cells₀ same₀ i₀ cells same i = length cells₀ - i
+
+loop-holds : tie.Need-loop-holds Inv-loop μ-loop
+loop-holds c = blanked-none _
+
+slice-read-same : tie.Need-slice-read-same Inv-loop μ-loop
+slice-read-same c = omega arith
+
+slice-write-cells : tie.Need-slice-write-cells Inv-loop μ-loop
+slice-write-cells c = omega arith
+
+add-i : tie.Need-add-i Inv-loop μ-loop
+add-i c = omega arith
+
+loop-less : tie.Need-loop-less Inv-loop μ-loop
+loop-less c = omega arith
+
+loop-again : tie.Need-loop-again Inv-loop μ-loop
+loop-again c = blanked-more (c .before .before .loop .inv) (omega arith)
+
+same-length : tie.Need-same-length Inv-loop μ-loop
+same-length c = c .before .loop .inv .copied .same
+
+returns : tie.Need-returns Inv-loop μ-loop
+returns c = written-all (c .before .loop .inv) (omega arith)
+
+pub put-blanks-spec : {M : Type 1} → statement M
+put-blanks-spec =
+    tie.close
+    (tie.spec
+    Inv-loop
+    μ-loop
+    loop-holds
+    slice-read-same
+    slice-write-cells
+    add-i
+    loop-less
+    loop-again
+    same-length
+    returns)

@@ -1,0 +1,82 @@
+-- `painter::refresh` meets its contract: the painted pieces are the virtual text, and its end is finished.
+use mathlib.Core.List.{List}
+use Prim.Native.Nat.{ℕ}
+use borrow.Author.Needs.{needs}
+use Rattle.window.specs.declared.Pen.{Pen}
+use Rattle.window.specs.Painter.{painting}
+use Rattle.window.proofs.Laws.Refresh.{main-held, quoted-held, quarter-size, quoted-asked}
+use Rattle.window.proofs.Laws.Refresh.{AllPainted, all-painted, finish-asked, refreshed}
+use Rattle.window.proofs.painter.refresh.Statement.{statement}
+use Rattle.window.proofs.painter.refresh.Tie as tie
+
+-- All of the virtual text is painted behind each of the two calls.
+abbrev Painted : tie.Start → Pen → List ℕ → Type 0
+Painted start pen screen =
+    let args = start .args in
+    AllPainted (args .f) (args .n) (args .text .now) (args .side .now) (args .screen .now) (painting pen screen)
+
+in-main : (c : tie.After-paint-main)
+    → Painted (c .before .before .before .before .before .before .before .before .before) (c .paint-main .result)
+    (c .paint-main .last .1 .1 .1 .1 .0)
+in-main c =
+    let told = c .before .before in
+    let start = told .before .before .before .before .before .before .before in
+    all-painted (start .pre .0) (start .pre .1) (main-held (start .args .n) _ _ (told .enum-told .given .1)) (c .paint-main .ensures)
+
+in-quoted : (c : tie.After-paint-quoted)
+    → Painted (c .before .before .before .before .before .before .before .before .before .before) (c .paint-quoted .result)
+    (c .paint-quoted .last .1 .1 .1 .1 .1 .1 .1 .0)
+in-quoted c =
+    let told = c .before .before .before in
+    let start = told .before .before .before .before .before .before .before in
+    all-painted (start .pre .0) (start .pre .1) (quoted-held (start .args .n) _ _ (told .enum-told2 .given .1)) (c .paint-quoted .ensures)
+
+enum-told : tie.Need-enum-told
+enum-told c = search needs
+
+paint-main-requires : tie.Need-paint-main-requires
+paint-main-requires c κs = search needs
+
+finish-requires : tie.Need-finish-requires
+finish-requires c κs = finish-asked (in-main (c .before .before .before))
+
+enum-told-2 : tie.Need-enum-told-2
+enum-told-2 c = search needs
+
+slice-aggregate-paint-quoted : tie.Need-slice-aggregate-paint-quoted
+slice-aggregate-paint-quoted c = quarter-size (c .before .before .before .before .before .before .before .before .pre .0)
+
+paint-quoted-requires : tie.Need-paint-quoted-requires
+paint-quoted-requires c κs =
+    let start = c .before .before .before .before .before .before .before .before .before in quoted-asked (start .pre .0) (start .pre .1 .0)
+
+finish-requires-2 : tie.Need-finish-requires-2
+finish-requires-2 c κs = finish-asked (in-quoted (c .before .before .before))
+
+same-length : tie.Need-same-length
+same-length c = search needs
+
+returns : tie.Need-returns
+returns c = refreshed (in-main (c .before .before .before .before .before .before)) (c .before .before .finish .ensures)
+
+same-length-2 : tie.Need-same-length-2
+same-length-2 c = search needs
+
+returns-2 : tie.Need-returns-2
+returns-2 c = refreshed (in-quoted (c .before .before .before .before .before .before)) (c .before .before .finish2 .ensures)
+
+pub refresh-spec : {M : Type 1} → statement M
+refresh-spec =
+    tie.close
+    (tie.spec
+    enum-told
+    paint-main-requires
+    finish-requires
+    enum-told-2
+    slice-aggregate-paint-quoted
+    paint-quoted-requires
+    finish-requires-2
+    same-length
+    returns
+    same-length-2
+    returns-2)

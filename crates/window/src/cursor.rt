@@ -1,0 +1,101 @@
+// The cursor of the virtual text, its visibility, and the policy. Offsets may be any number: no sum of one is formed before it is
+// known to be small.
+use crate::Frame;
+use crate::Spot;
+use editor::Lengths;
+use editor::Mode;
+use gap::lines::count_newlines;
+use gap::lines::since_newline;
+ghost use mathlib.Core.Path.{_≡_};
+ghost use Prim.Native.Nat.{_≤_};
+ghost use Rattle.window.specs.Window.{policyRow, policyColumn};
+ghost use Rattle.window.specs.Calls.{spotIn, visibleAt, policyAt, Texts, virtualHeld};
+
+// Row from 1 and column from 0, over the texts left of the cursor only.
+pub fn cursor(n: Lengths, text: &[u8], side: &[u8]) -> Spot
+    requires { ⌜ Texts n (now text) (now side) ⌝ }
+    ensures { λ s. ⌜ s ≡ spotIn (virtualHeld n (now (text .entry)) (now (side .entry))) ⌝ }
+{
+    let main = n.main;
+    let quoted = n.quoted;
+    let mode = n.mode;
+    let l = main.l;
+    let q = quoted.l;
+    let above = count_newlines(&text[..l]);
+    match mode {
+        Mode::Main => Spot {
+            row: above + 1,
+            column: since_newline(0, &text[..l]),
+        },
+        Mode::Quoted => {
+            let within = count_newlines(&side[..q]);
+            Spot {
+                row: above + within + 2,
+                column: since_newline(1, &side[..q]),
+            }
+        }
+    }
+}
+
+// The cursor can be shown.
+pub fn is_visible(f: Frame, s: Spot) -> bool
+    ensures { λ ok. ⌜ ok ≡ visibleAt f s ⌝ }
+{
+    let r = f.r;
+    let c = f.c;
+    let row = s.row;
+    let column = s.column;
+    if row <= r {
+        return false;
+    }
+    if f.h < row - r {
+        return false;
+    }
+    if column < c {
+        return false;
+    }
+    column - c <= f.w
+}
+
+// The offset that shows a row, moved as little as it takes.
+fn row_offset(f: Frame, row: usize) -> usize
+    requires { ⌜ 1 ≤ row ⌝ }
+    ensures { λ r. ⌜ r ≡ policyRow f row ⌝ }
+{
+    let r = f.r;
+    let h = f.h;
+    if row <= r {
+        return row - 1;
+    }
+    if h < row - r {
+        return row - h;
+    }
+    r
+}
+
+fn column_offset(f: Frame, column: usize) -> usize
+    ensures { λ c. ⌜ c ≡ policyColumn f column ⌝ }
+{
+    let c = f.c;
+    let w = f.w;
+    if column < c {
+        return column;
+    }
+    if w < column - c {
+        return column - w;
+    }
+    c
+}
+
+// The policy.
+pub fn follow(f: Frame, s: Spot) -> Frame
+    requires { ⌜ 1 ≤ s .row ⌝ }
+    ensures { λ g. ⌜ g ≡ policyAt f s ⌝ }
+{
+    Frame {
+        r: row_offset(f, s.row),
+        c: column_offset(f, s.column),
+        h: f.h,
+        w: f.w,
+    }
+}

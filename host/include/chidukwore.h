@@ -1,0 +1,99 @@
+/*
+ * Chidukwore: a proved deck editor core for bench terminals. This header is all that a C program needs.
+ *
+ * The core keeps nothing between calls. The host owns four stores of bytes and a record; each call is lent the stores, is handed the
+ * record by value and hands one back. Between calls the host hands record and stores on untouched: it reads them, and writes none of
+ * them, but for the screen, which it may overwrite (the next call then names the rows that differ from what it finds there).
+ *
+ *   text    T bytes, 1 to 65,536: the document
+ *   recall  T bytes, the same T: the recall text
+ *   side    1,024 bytes: quotation, its recall text, pattern, replacement
+ *   screen  rows times columns bytes, row by row; rows 1 to 64, columns 1 to 256
+ *
+ * Nothing is asked beforehand. Whatever is handed over, the call answers; what is wrong is refused with a number, and then no byte of
+ * any store has changed. Each pointer must be that of as many bytes as its length says, the four must not overlap, and none may be null,
+ * not even with length 0.
+ */
+#ifndef CHIDUKWORE_H
+#define CHIDUKWORE_H
+
+#include <stddef.h>
+#include <stdint.h>
+
+#ifdef __cplusplus
+extern "C" {
+#endif
+
+/* Refusals. A call gives the first that applies: opening checks 1, 2, 3, a key checks 1, 4, 5, 6. */
+enum {
+    CHIDUKWORE_OK = 0,
+    CHIDUKWORE_SIZE = 1,    /* a store's length, rows or columns are not as above */
+    CHIDUKWORE_LONG = 2,    /* opening: the stated length is more than T */
+    CHIDUKWORE_TEXT = 3,    /* opening: a byte of the text is neither 10 nor 32 to 126; place is its index, from 0 */
+    CHIDUKWORE_SESSION = 4, /* key: record and stores are not what a call gave back */
+    CHIDUKWORE_KEY = 5,     /* key: no such key, a byte that is not allowed, or one of the two deletions that are not carried out */
+    CHIDUKWORE_FULL = 6     /* key: the finished text would not fit its store */
+};
+
+/* Kinds of key, with what a, b and c say. Numbers that name no key are refused with CHIDUKWORE_KEY. */
+enum {
+    CHIDUKWORE_INSERT = 0,   /* a: the byte */
+    CHIDUKWORE_FUNCTION = 1, /* a: action, b: direction, c: place */
+    CHIDUKWORE_RECALL = 2,
+    CHIDUKWORE_QUOTE = 3,
+    CHIDUKWORE_FIND = 4, /* a: direction */
+    CHIDUKWORE_REPLACE = 5
+};
+enum { CHIDUKWORE_MOVE = 0, CHIDUKWORE_DELETE = 1 };
+enum { CHIDUKWORE_LEFT = 0, CHIDUKWORE_RIGHT = 1 };
+enum {
+    CHIDUKWORE_CHARACTER = 0,
+    CHIDUKWORE_WORD = 1,
+    CHIDUKWORE_LINE_BEGINNING = 2,
+    CHIDUKWORE_LINE_ENDING = 3,
+    CHIDUKWORE_DOCUMENT = 4
+};
+
+/* The session record. A host hands it on and need not look into it; the lengths tell where the texts lie. */
+struct chidukwore_record {
+    size_t l, r;       /* document: its first l bytes are text[0 .. l), the others the last r bytes of text */
+    size_t ql, qr;     /* quotation, likewise in side[0 .. 256) */
+    size_t rl, rr;     /* both halves of the document's recall text, one after the other at the front of recall */
+    size_t qrl, qrr;   /* both halves of the quotation's recall text, at side[256] */
+    size_t xl, xr;     /* both halves of the replacement, at side[768] */
+    size_t pl;         /* pattern, at side[512] */
+    size_t mode;       /* 0 MAIN, 1 QUOTED */
+    size_t top, left;  /* window offsets r and c: rows and columns of the text above and left of the screen */
+    size_t rows, columns;
+};
+
+/* What a call answers. After a refusal everything but code and place is 0. */
+struct chidukwore_answer {
+    size_t code;        /* 0, or a refusal */
+    size_t place;       /* for CHIDUKWORE_TEXT only */
+    size_t steps;       /* of moves, deletions and searches */
+    size_t bell;        /* 1 where no place or match was found */
+    size_t first, last; /* the rows to repaint, from 1; 0 and 0: none */
+    size_t row, column; /* the cursor on the screen: rows from 1, columns from 0 up to and including columns */
+};
+
+struct chidukwore_reply {
+    struct chidukwore_answer answer;
+    struct chidukwore_record record;
+};
+
+/* Opens the first n bytes of text: the cursor at its beginning, everything else emptied, the screen painted, all rows named.
+ * Refused, it hands back a record of zeros. */
+struct chidukwore_reply chidukwore_open(size_t n, size_t rows, size_t columns, uint8_t *text, size_t text_length, uint8_t *recall,
+                                        size_t recall_length, uint8_t *side, size_t side_length, uint8_t *screen, size_t screen_length);
+
+/* Presses a key. Refused, it hands back the record it was given. */
+struct chidukwore_reply chidukwore_key(struct chidukwore_record record, size_t kind, size_t a, size_t b, size_t c, uint8_t *text,
+                                       size_t text_length, uint8_t *recall, size_t recall_length, uint8_t *side, size_t side_length,
+                                       uint8_t *screen, size_t screen_length);
+
+#ifdef __cplusplus
+}
+#endif
+
+#endif
