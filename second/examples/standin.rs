@@ -1,0 +1,62 @@
+//! The second program behind the host's boundary: a library that can stand in for the proved core where that one isn't built.
+
+use second::bytes::{Record, Stores};
+use second::core::{Core, Numbers, Reply, Second};
+use std::slice::from_raw_parts_mut;
+
+/// Runs a call on copies of the lent stores and copies them back.
+///
+/// # Safety
+/// Each pointer is that of as many bytes as its length says, and none overlap.
+unsafe fn lend(lent: [(*mut u8, usize); 4], call: impl FnOnce(&mut Stores) -> Reply) -> Reply {
+    let mut lent = lent.map(|(store, length)| from_raw_parts_mut(store, length));
+    let copy = |i: usize| lent[i].to_vec();
+    let mut stores = Stores { text: copy(0), recall: copy(1), side: copy(2), screen: copy(3) };
+    let reply = call(&mut stores);
+    for (store, bytes) in lent.iter_mut().zip([stores.text, stores.recall, stores.side, stores.screen]) {
+        store.copy_from_slice(&bytes);
+    }
+    reply
+}
+
+/// # Safety
+/// As the header says.
+#[no_mangle]
+pub unsafe extern "C" fn chidukwore_open(
+    n: usize,
+    rows: usize,
+    columns: usize,
+    text: *mut u8,
+    text_length: usize,
+    recall: *mut u8,
+    recall_length: usize,
+    side: *mut u8,
+    side_length: usize,
+    screen: *mut u8,
+    screen_length: usize,
+) -> Reply {
+    let lent = [(text, text_length), (recall, recall_length), (side, side_length), (screen, screen_length)];
+    lend(lent, |stores| Second.open(n, rows, columns, stores))
+}
+
+/// # Safety
+/// As the header says.
+#[no_mangle]
+pub unsafe extern "C" fn chidukwore_key(
+    record: Record,
+    kind: usize,
+    a: usize,
+    b: usize,
+    c: usize,
+    text: *mut u8,
+    text_length: usize,
+    recall: *mut u8,
+    recall_length: usize,
+    side: *mut u8,
+    side_length: usize,
+    screen: *mut u8,
+    screen_length: usize,
+) -> Reply {
+    let lent = [(text, text_length), (recall, recall_length), (side, side_length), (screen, screen_length)];
+    lend(lent, |stores| Second.key(record, Numbers { kind, a, b, c }, stores))
+}

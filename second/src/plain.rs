@@ -1,0 +1,263 @@
+//! The plain editor (01, "The plain editor"; 001, sections 1.1 to 1.5): two sequences, places, distances by trying each d, keys.
+//! Nothing here knows of stores or screens. A key works on texts without bound; only the finished text is held against its room.
+
+use std::collections::VecDeque;
+
+pub const NEWLINE: u8 = 10;
+pub const SPACE: u8 = 32;
+/// The room of a quotation, of its recall text, of the pattern and of the replacement.
+pub const QUARTER: usize = 256;
+
+pub fn allowed(byte: u8) -> bool {
+    byte == NEWLINE || (32..=126).contains(&byte)
+}
+
+#[derive(Clone, Copy, Debug, PartialEq, Eq)]
+pub enum Action {
+    Move,
+    Delete,
+}
+
+#[derive(Clone, Copy, Debug, PartialEq, Eq)]
+pub enum Direction {
+    Left,
+    Right,
+}
+
+#[derive(Clone, Copy, Debug, PartialEq, Eq)]
+pub enum Place {
+    Character,
+    Word,
+    LineBeginning,
+    LineEnding,
+    Document,
+}
+
+#[derive(Clone, Copy, Debug, PartialEq, Eq)]
+pub enum Key {
+    Insert(u8),
+    Function(Action, Direction, Place),
+    Recall,
+    Quote,
+    Find(Direction),
+    Replace,
+}
+
+/// The refusals that a key itself can get; the others are about sizes and bytes.
+#[derive(Clone, Copy, Debug, PartialEq, Eq)]
+pub enum Refusal {
+    Key,
+    Full,
+}
+
+/// A pair (l, r): the text left and right of the cursor. Recall text and replacement are such pairs too.
+#[derive(Clone, Debug, Default, PartialEq, Eq)]
+pub struct Doc {
+    pub l: Vec<u8>,
+    pub r: VecDeque<u8>,
+}
+
+impl Doc {
+    pub fn new(l: &[u8], r: &[u8]) -> Doc {
+        Doc { l: l.to_vec(), r: r.iter().copied().collect() }
+    }
+
+    pub fn length(&self) -> usize {
+        self.l.len() + self.r.len()
+    }
+
+    pub fn content(&self) -> Vec<u8> {
+        self.l.iter().chain(&self.r).copied().collect()
+    }
+
+    /// One single step, and the byte it went over or dropped; none at the end of the text.
+    fn step(&mut self, action: Action, direction: Direction) -> Option<u8> {
+        let byte = match direction {
+            Direction::Left => self.l.pop()?,
+            Direction::Right => self.r.pop_front()?,
+        };
+        match (action, direction) {
+            (Action::Move, Direction::Left) => self.r.push_front(byte),
+            (Action::Move, Direction::Right) => self.l.push(byte),
+            (Action::Delete, _) => {}
+        }
+        Some(byte)
+    }
+
+    /// (l, r) becomes (l then x, y then r).
+    fn join(&mut self, pair: &Doc) {
+        self.l.extend(&pair.l);
+        pair.r.iter().rev().for_each(|byte| self.r.push_front(*byte));
+    }
+
+    pub fn begins_with(&self, pattern: &[u8]) -> bool {
+        self.r.len() >= pattern.len() && self.r.iter().zip(pattern).all(|(a, b)| a == b)
+    }
+}
+
+fn blank(byte: &u8) -> bool {
+    *byte == SPACE || *byte == NEWLINE
+}
+
+fn line_beginning(doc: &Doc) -> bool {
+    doc.l.last().is_none_or(|byte| *byte == NEWLINE)
+}
+
+fn line_ending(doc: &Doc) -> bool {
+    doc.r.front().is_none_or(|byte| *byte == NEWLINE)
+}
+
+fn word(doc: &Doc) -> bool {
+    (doc.l.last().is_none_or(blank) && doc.r.front().is_none_or(|byte| !blank(byte))) || line_beginning(doc)
+}
+
+/// Is the pair such a place? Only the document's place depends on where one goes.
+pub fn is_place(doc: &Doc, direction: Direction, place: Place) -> bool {
+    match (place, direction) {
+        (Place::Character, _) => true,
+        (Place::Word, _) => word(doc),
+        (Place::LineBeginning, _) => line_beginning(doc),
+        (Place::LineEnding, _) => line_ending(doc),
+        (Place::Document, Direction::Left) => doc.l.is_empty(),
+        (Place::Document, Direction::Right) => doc.r.is_empty(),
+    }
+}
+
+/// The least d > 0 such that d moves reach what is wanted; none where no d does.
+fn distance(doc: &Doc, direction: Direction, reached: impl Fn(&Doc) -> bool) -> Option<usize> {
+    let mut there = doc.clone();
+    let mut d = 0;
+    while there.step(Action::Move, direction).is_some() {
+        d += 1;
+        if reached(&there) {
+            return Some(d);
+        }
+    }
+    None
+}
+
+/// A text with its own recall text: the document's, or the quotation's (001's ED).
+#[derive(Clone, Debug, Default, PartialEq, Eq)]
+pub struct Edited {
+    pub text: Doc,
+    pub recall: Doc,
+}
+
+#[derive(Clone, Copy, Debug, Default, PartialEq, Eq)]
+pub enum Mode {
+    #[default]
+    Main,
+    Quoted,
+}
+
+#[derive(Clone, Debug, Default, PartialEq, Eq)]
+pub struct Editor {
+    pub main: Edited,
+    pub quoted: Edited,
+    pub pattern: Vec<u8>,
+    pub replacement: Doc,
+    pub mode: Mode,
+}
+
+impl Editor {
+    /// The text that insert, move, delete and RECALL act on.
+    pub fn current(&mut self) -> &mut Edited {
+        match self.mode {
+            Mode::Main => &mut self.main,
+            Mode::Quoted => &mut self.quoted,
+        }
+    }
+
+    /// Clearing or abandoning a quotation empties its own recall text too.
+    fn leave_quotation(&mut self) {
+        self.quoted = Edited::default();
+        self.mode = Mode::Main;
+    }
+}
+
+#[derive(Clone, Debug, PartialEq, Eq)]
+pub struct Pressed {
+    pub editor: Editor,
+    pub steps: usize,
+    pub bell: bool,
+}
+
+/// What a key makes of an editor whose document has room for T bytes.
+pub fn press(before: &Editor, key: Key, t: usize) -> Result<Pressed, Refusal> {
+    if refused(key) {
+        return Err(Refusal::Key);
+    }
+    let mut editor = before.clone();
+    let mut went = Some(0);
+    match key {
+        Key::Insert(byte) => editor.current().text.l.push(byte),
+        Key::Function(action, direction, place) => went = function(editor.current(), action, direction, place),
+        Key::Recall => {
+            let edited = editor.current();
+            edited.text.join(&edited.recall);
+        }
+        Key::Quote => match editor.mode {
+            Mode::Main => editor.mode = Mode::Quoted,
+            Mode::Quoted => editor.leave_quotation(),
+        },
+        Key::Find(direction) => went = find(&mut editor, direction),
+        Key::Replace => went = replace(&mut editor),
+    }
+    if editor.main.text.length() > t || editor.quoted.text.length() > QUARTER {
+        return Err(Refusal::Full);
+    }
+    Ok(Pressed { editor, steps: went.unwrap_or(0), bell: went.is_none() })
+}
+
+/// A byte that isn't allowed, and the two of the 20 function keys that are left out.
+fn refused(key: Key) -> bool {
+    match key {
+        Key::Insert(byte) => !allowed(byte),
+        Key::Function(Action::Delete, Direction::Left, Place::LineEnding) => true,
+        Key::Function(Action::Delete, Direction::Right, Place::LineBeginning) => true,
+        _ => false,
+    }
+}
+
+/// The steps made; none is the bell. A deletion that finds no place empties the recall text.
+fn function(edited: &mut Edited, action: Action, direction: Direction, place: Place) -> Option<usize> {
+    let d = distance(&edited.text, direction, |doc| is_place(doc, direction, place));
+    let mut gone = Vec::new();
+    for _ in 0..d.unwrap_or(0) {
+        gone.extend(edited.text.step(action, direction));
+    }
+    if action == Action::Delete {
+        edited.recall = match direction {
+            // Leftward the bytes go last one first.
+            Direction::Left => Doc { l: gone.into_iter().rev().collect(), r: VecDeque::new() },
+            Direction::Right => Doc { l: Vec::new(), r: gone.into() },
+        };
+    }
+    d
+}
+
+fn find(editor: &mut Editor, direction: Direction) -> Option<usize> {
+    if editor.mode == Mode::Quoted {
+        editor.pattern = editor.quoted.text.content();
+        editor.leave_quotation();
+    }
+    let d = distance(&editor.main.text, direction, |doc| doc.begins_with(&editor.pattern))?;
+    for _ in 0..d {
+        editor.main.text.step(Action::Move, direction);
+    }
+    Some(d)
+}
+
+fn replace(editor: &mut Editor) -> Option<usize> {
+    if editor.mode == Mode::Quoted {
+        editor.replacement = editor.quoted.text.clone();
+        editor.leave_quotation();
+    }
+    if !editor.main.text.begins_with(&editor.pattern) {
+        return None;
+    }
+    editor.main.text.r.drain(..editor.pattern.len());
+    editor.main.text.join(&editor.replacement);
+    editor.main.recall = Doc::new(&[], &editor.pattern);
+    Some(0)
+}

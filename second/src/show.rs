@@ -1,0 +1,81 @@
+//! Inputs and outcomes as a person reads them.
+
+use crate::bytes::{Record, Stores};
+use crate::calls::{Call, Kind};
+use crate::core::Reply;
+
+/// A script, with odd bytes so that `printf %b` gives it back.
+pub fn script(bytes: &[u8]) -> String {
+    let plain = |byte: &u8| *byte == b'\n' || (32..=126).contains(byte) && *byte != b'\\';
+    if bytes.iter().all(plain) {
+        return String::from_utf8_lossy(bytes).into_owned();
+    }
+    let shown = bytes.iter().map(|byte| match byte {
+        byte if plain(byte) => (*byte as char).to_string(),
+        byte => format!("\\0{byte:03o}"),
+    });
+    format!("(for printf %b)\n{}", shown.collect::<String>())
+}
+
+/// The first line in which two outputs differ, with a few before and after it.
+pub fn from_the_first_difference(a: &[u8], b: &[u8]) -> (String, String) {
+    let lines = |output: &[u8]| output.split_inclusive(|byte| *byte == b'\n').map(<[u8]>::to_vec).collect::<Vec<_>>();
+    let (a, b) = (lines(a), lines(b));
+    let same = a.iter().zip(&b).take_while(|(a, b)| a == b).count();
+    let part = |lines: &[Vec<u8>]| {
+        let part: Vec<Vec<u8>> = lines.iter().skip(same.saturating_sub(10)).take(20).cloned().collect();
+        script(&part.concat())
+    };
+    (part(&a), part(&b))
+}
+
+/// Bytes as a text, with long runs counted.
+fn bytes(bytes: &[u8]) -> String {
+    let runs = bytes.chunk_by(|a, b| a == b).map(|run| {
+        let one = run[0].escape_ascii().to_string();
+        if run.len() > 4 {
+            format!("{{{one} x {}}}", run.len())
+        } else {
+            one.repeat(run.len())
+        }
+    });
+    format!("\"{}\" ({} bytes)", runs.collect::<String>(), bytes.len())
+}
+
+/// The stores, the side store by its quarters; one that is too long has a fifth.
+fn areas(stores: &Stores) -> Vec<(&str, &[u8])> {
+    let names = ["quotation", "its recall", "pattern", "replacement", "more"];
+    let mut areas = vec![("text", &stores.text[..]), ("recall", &stores.recall), ("screen", &stores.screen)];
+    areas.extend(names.into_iter().zip(stores.side.chunks(256)));
+    areas
+}
+
+fn line((name, area): &(&str, &[u8])) -> String {
+    format!("  {name:<11} {}\n", bytes(area))
+}
+
+fn numbers(mut record: Record) -> String {
+    let names = ["l", "r", "ql", "qr", "rl", "rr", "qrl", "qrr", "xl", "xr", "pl", "mode", "top", "left", "rows", "columns"];
+    let shown = names.iter().zip(record.fields()).map(|(name, value)| format!(" {name}={value}"));
+    format!("  record     {}\n", shown.collect::<String>())
+}
+
+/// A call; quarters of zeros are left out.
+pub fn call(call: &Call) -> String {
+    let head = match call.kind {
+        Kind::Open { n, h, w } => format!("  open        n={n} rows={h} columns={w}\n"),
+        Kind::Key { record, numbers: key } => {
+            format!("  key         kind={} a={} b={} c={}\n{}", key.kind, key.a, key.b, key.c, numbers(record))
+        }
+    };
+    let shown = areas(&call.stores).into_iter().filter(|(_, area)| *area != [0; 256]);
+    head + &shown.map(|area| line(&area)).collect::<String>()
+}
+
+/// The answer, the record, and what the call changed in the stores.
+pub fn outcome(call: &Call, (reply, after): &(Reply, Stores)) -> String {
+    let (before, after) = (areas(&call.stores), areas(after));
+    let changed = after.into_iter().zip(before).filter(|(now, before)| now != before);
+    let head = format!("  {:?}\n{}", reply.answer, numbers(reply.record));
+    head + &changed.map(|(now, _)| line(&now)).collect::<String>()
+}

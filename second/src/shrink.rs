@@ -1,0 +1,266 @@
+//! From an input that shows a difference to the smallest one found that still does: whatever can be left out is left out.
+
+use crate::bytes::{encode, record, session, sizes_fit, Stores};
+use crate::calls::{Call, Kind};
+use crate::plain::{Doc, Edited, Editor};
+use crate::walk::Walk;
+use crate::window::{policy, virtual_text, window, Offsets};
+
+/// After so many tries nothing differs any more, and what is smallest by then is taken: a try may start the bench program, or go
+/// through a store of 65,536 bytes.
+fn limited<T: ?Sized>(mut differs: impl FnMut(&T) -> bool) -> impl FnMut(&T) -> bool {
+    let mut tries = 0;
+    move |input| {
+        tries += 1;
+        tries < 4_000 && differs(input)
+    }
+}
+
+/// Leaves out runs of a sequence, first long ones, then short ones, as long as the difference stays.
+fn leave_out<T: Clone>(mut items: Vec<T>, mut differs: impl FnMut(&[T]) -> bool) -> Vec<T> {
+    let mut run = items.len();
+    while run > 0 {
+        let mut at = 0;
+        while at < items.len() {
+            let end = (at + run).min(items.len());
+            let rest = [&items[..at], &items[end..]].concat();
+            if differs(&rest) {
+                items = rest;
+            } else {
+                at = end;
+            }
+        }
+        run /= 2;
+    }
+    items
+}
+
+/// A walk with fewer keys, less text, a smaller store and a smaller screen.
+pub fn walk(mut walk: Walk, differs: impl FnMut(&Walk) -> bool) -> Walk {
+    let mut differs = limited(differs);
+    loop {
+        walk.keys = leave_out(walk.keys.clone(), |keys| differs(&Walk { keys: keys.to_vec(), ..walk.clone() }));
+        walk.text = leave_out(walk.text.clone(), |text| differs(&Walk { text: text.to_vec(), ..walk.clone() }));
+        match smaller_sizes(&walk).into_iter().find(&mut differs) {
+            Some(smaller) => walk = smaller,
+            None => return walk,
+        }
+    }
+}
+
+/// The same walk on a smaller screen or store; or with one key and one byte of the store less, for what shows only where it is full.
+fn smaller_sizes(walk: &Walk) -> Vec<Walk> {
+    let least = walk.text.len().max(1);
+    let mut all: Vec<Walk> = less(walk.t, least).map(|t| Walk { t, ..walk.clone() }).collect();
+    all.extend(less(walk.h, 1).map(|h| Walk { h, ..walk.clone() }));
+    all.extend(less(walk.w, 1).map(|w| Walk { w, ..walk.clone() }));
+    if walk.t > least {
+        all.extend((0..walk.keys.len()).map(|i| {
+            let mut fewer = Walk { t: walk.t - 1, ..walk.clone() };
+            fewer.keys.remove(i);
+            fewer
+        }));
+    }
+    all
+}
+
+/// Numbers below this one to try: the least, half of it, one less.
+fn less(number: usize, least: usize) -> impl Iterator<Item = usize> {
+    [least, number / 2, number.saturating_sub(1)].into_iter().filter(move |less| (least..number).contains(less))
+}
+
+/// A script with fewer lines, smaller numbers, less text, fewer bytes.
+pub fn script(script: Vec<u8>, differs: impl FnMut(&[u8]) -> bool) -> Vec<u8> {
+    let mut differs = limited(differs);
+    let mut script = lines_left_out(script, &mut differs);
+    while let Some(smaller) = smaller_headers(&script).into_iter().find(|smaller| differs(smaller)) {
+        script = smaller;
+    }
+    script = lines_left_out(script, &mut differs);
+    if script.len() < 400 {
+        script = leave_out(script, &mut differs);
+    }
+    script
+}
+
+fn lines_left_out(script: Vec<u8>, differs: &mut impl FnMut(&[u8]) -> bool) -> Vec<u8> {
+    let lines: Vec<Vec<u8>> = script.split_inclusive(|byte| *byte == 10).map(<[u8]>::to_vec).collect();
+    leave_out(lines, |lines| differs(&lines.concat())).concat()
+}
+
+/// The same script with a smaller number in one header line, or with a shorter text and its length; none where it has no such header.
+fn smaller_headers(script: &[u8]) -> Vec<Vec<u8>> {
+    let mut parts = script.splitn(5, |byte| *byte == 10);
+    let mut values = [0; 4];
+    for (value, name) in values.iter_mut().zip(["rows=", "cols=", "store=", "text="]) {
+        let digits = parts.next().and_then(|line| std::str::from_utf8(line).ok()).and_then(|line| line.strip_prefix(name));
+        match digits.and_then(|digits| digits.parse::<usize>().ok()) {
+            Some(number) => *value = number,
+            None => return Vec::new(),
+        }
+    }
+    let rest = parts.next().unwrap_or(&[]);
+    let [h, w, t, n] = values;
+    let write = |h: usize, w: usize, t: usize, text: &[u8], rest: &[u8]| {
+        [format!("rows={h}\ncols={w}\nstore={t}\ntext={}\n", text.len()).as_bytes(), text, rest].concat()
+    };
+    if n > rest.len() {
+        return Vec::new();
+    }
+    let (text, rest) = rest.split_at(n);
+    let mut all = Vec::new();
+    let mut run = n;
+    while run > 0 {
+        all.push(write(h, w, t, &text[run..], rest));
+        all.push(write(h, w, t, &text[..n - run], rest));
+        run /= 2;
+    }
+    for i in 0..n.min(20) {
+        all.push(write(h, w, t, &[&text[..i], &text[i + 1..]].concat(), rest));
+    }
+    all.extend(less(h, 1).map(|h| write(h, w, t, text, rest)));
+    all.extend(less(w, 1).map(|w| write(h, w, t, text, rest)));
+    all.extend(less(t, 1).map(|t| write(h, w, t, text, rest)));
+    all
+}
+
+/// A call with smaller numbers and fewer bytes.
+pub fn call(mut call: Call, differs: impl FnMut(&Call) -> bool) -> Call {
+    let mut differs = limited(differs);
+    loop {
+        let least = weight(&call);
+        let mut candidates = smaller_states(&call).into_iter().chain(smaller_bytes(&call));
+        match candidates.find(|candidate| weight(candidate) < least && differs(candidate)) {
+            Some(smaller) => call = smaller,
+            None => return call,
+        }
+    }
+}
+
+/// How much there is to read in a call: lengths, bytes that are set, numbers.
+fn weight(call: &Call) -> u128 {
+    let stores = &call.stores;
+    let set = |store: &[u8], empty: u8| store.iter().filter(|byte| **byte != empty).count() * 4;
+    let bytes = stores.text.len() + stores.recall.len() + stores.side.len() + stores.screen.len();
+    let texts = set(&stores.text, 0) + set(&stores.recall, 0) + set(&stores.side, 0) + set(&stores.screen, 32);
+    let numbers: u128 = numbers(&mut call.kind.clone()).into_iter().map(|number| *number as u128).sum();
+    (bytes + texts) as u128 + numbers
+}
+
+/// Where record and stores are a session: the same key on smaller states.
+fn smaller_states(call: &Call) -> Vec<Call> {
+    let Kind::Key { record: given, numbers } = call.kind else {
+        return Vec::new();
+    };
+    let (h, w, t) = (given.rows, given.columns, call.stores.text.len());
+    if !sizes_fit(&call.stores, h, w) {
+        return Vec::new();
+    }
+    let Some(editor) = session(&given, &call.stores) else {
+        return Vec::new();
+    };
+    // The lent screen may matter, so it stays where it still fits.
+    let make = |editor: &Editor, t: usize, h: usize, w: usize, from: Offsets| {
+        let seen = virtual_text(editor);
+        let at = policy(&seen, from, h, w);
+        let (text, recall, side) = encode(editor, t);
+        let same = (h, w) == (given.rows, given.columns);
+        let screen = if same { call.stores.screen.clone() } else { window(&seen, at, h, w) };
+        Call { kind: Kind::Key { record: record(editor, at, h, w), numbers }, stores: Stores { text, recall, side, screen } }
+    };
+    let here = Offsets { r: given.top, c: given.left };
+    let mut all = vec![make(&editor, t, h, w, Offsets::default())];
+    let texts = parts(&editor);
+    for (i, text) in texts.iter().enumerate() {
+        let mut shorter = |text: Vec<u8>| {
+            let mut texts = texts.clone();
+            texts[i] = text;
+            let editor = assemble(&editor, texts);
+            let used = editor.main.text.length().max(editor.main.recall.length()).max(1);
+            all.extend(less(t, used).chain([t]).map(|t| make(&editor, t, h, w, here)));
+        };
+        let mut run = text.len();
+        while run > 0 {
+            shorter(text[run..].to_vec());
+            shorter(text[..text.len() - run].to_vec());
+            run /= 2;
+        }
+        for j in 0..text.len().min(12) {
+            shorter([&text[..j], &text[j + 1..]].concat());
+        }
+    }
+    let used = editor.main.text.length().max(editor.main.recall.length()).max(1);
+    all.extend(less(t, used).map(|t| make(&editor, t, h, w, here)));
+    all.extend(less(h, 1).map(|h| make(&editor, t, h, w, here)));
+    all.extend(less(w, 1).map(|w| make(&editor, t, h, w, here)));
+    all
+}
+
+/// The eleven texts of a state, in the record's order.
+fn parts(editor: &Editor) -> Vec<Vec<u8>> {
+    let docs = [&editor.main.text, &editor.quoted.text, &editor.main.recall, &editor.quoted.recall, &editor.replacement];
+    let mut parts: Vec<Vec<u8>> = docs.iter().flat_map(|doc| [doc.l.clone(), doc.r.iter().copied().collect()]).collect();
+    parts.push(editor.pattern.clone());
+    parts
+}
+
+fn assemble(editor: &Editor, parts: Vec<Vec<u8>>) -> Editor {
+    let doc = |i: usize| Doc::new(&parts[i], &parts[i + 1]);
+    Editor {
+        main: Edited { text: doc(0), recall: doc(4) },
+        quoted: Edited { text: doc(2), recall: doc(6) },
+        replacement: doc(8),
+        pattern: parts[10].clone(),
+        mode: editor.mode,
+    }
+}
+
+/// All numbers of a call: those of the opening, or the record's 16 and the key's.
+fn numbers(kind: &mut Kind) -> Vec<&mut usize> {
+    match kind {
+        Kind::Open { n, h, w } => vec![n, h, w],
+        Kind::Key { record, numbers } => {
+            record.fields().into_iter().chain([&mut numbers.a, &mut numbers.b, &mut numbers.c]).collect()
+        }
+    }
+}
+
+/// Any call: smaller numbers one by one, texts emptied with their lengths, bytes taken out of the stores.
+fn smaller_bytes(call: &Call) -> Vec<Call> {
+    let mut all = Vec::new();
+    let mut with = |change: &dyn Fn(&mut Call)| {
+        let mut smaller = call.clone();
+        change(&mut smaller);
+        all.push(smaller);
+    };
+    let values: Vec<usize> = numbers(&mut call.kind.clone()).into_iter().map(|number| *number).collect();
+    for (i, value) in values.iter().enumerate() {
+        for smaller in less(*value, 0) {
+            with(&|call| *numbers(&mut call.kind)[i] = smaller);
+        }
+    }
+    with(&|call| call.stores.screen.fill(32));
+    if let Kind::Key { .. } = call.kind {
+        let zero = |call: &mut Call, lengths: [usize; 2]| lengths.iter().for_each(|i| *numbers(&mut call.kind)[*i] = 0);
+        with(&|call| (call.stores.text.fill(0), zero(call, [0, 1])).1);
+        with(&|call| (call.stores.recall.fill(0), zero(call, [4, 5])).1);
+        for (quarter, lengths) in [[2, 3], [6, 7], [10, 10], [8, 9]].into_iter().enumerate() {
+            with(&|call| {
+                call.stores.side.chunks_mut(256).skip(quarter).take(1).for_each(|area| area.fill(0));
+                zero(call, lengths);
+            });
+        }
+    }
+    // Out of the middle of the text store, where a gap is; the recall store follows.
+    for t in less(call.stores.text.len(), 0) {
+        with(&|Call { stores, .. }| {
+            stores.text.drain(t / 2..t / 2 + stores.text.len() - t);
+            stores.recall.truncate(t);
+        });
+    }
+    let set = |store: &[u8]| (0..store.len()).filter(|i| store[*i] != 0).take(16).collect::<Vec<_>>();
+    set(&call.stores.text).into_iter().for_each(|i| with(&|call| call.stores.text[i] = 0));
+    set(&call.stores.recall).into_iter().for_each(|i| with(&|call| call.stores.recall[i] = 0));
+    set(&call.stores.side).into_iter().for_each(|i| with(&|call| call.stores.side[i] = 0));
+    all
+}
