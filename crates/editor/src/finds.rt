@@ -73,10 +73,10 @@ fn find_right(t: &[u8], pattern: &[u8]) -> Search
     if pattern.len() < 1 {
         return first_move(n);
     }
-    let first = pattern[0];
+    let head = pattern[0];
     let mut d = 1;
     while d < n {
-        if t[d] == first {
+        if t[d] == head {
             if run_begins(t, d, pattern) {
                 return Search::Reached(d);
             }

@@ -88,17 +88,17 @@ fn scan_left(place: Place, t: &[u8]) -> Search
     Search::Nowhere
 }
 
-// The distance to the right, over the text right of the cursor.
+// The distance to the right, over the text right of the cursor: place p of it is p moves away.
 fn scan_right(place: Place, t: &[u8]) -> Search
     ensures { λ s. ⌜ ((l : List ℕ) → s ≡ distance Right (isAt place Right) (record { l = l; r = now (t .entry) })) ⌝ }
 {
     let n = t.len();
-    let mut d = 1;
-    while d <= n {
-        if stands(place, Direction::Right, t, d) {
-            return Search::Reached(d);
+    let mut p = 1;
+    while p <= n {
+        if stands(place, Direction::Right, t, p) {
+            return Search::Reached(p);
         }
-        d += 1;
+        p += 1;
     }
     Search::Nowhere
 }

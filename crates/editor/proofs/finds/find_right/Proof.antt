@@ -11,10 +11,10 @@ use Rattle.editor.proofs.finds.find_right.Statement.{statement}
 use Rattle.editor.proofs.finds.find_right.Tie as tie
 
 abbrev Inv-loop : tie.InvT-loop
-Inv-loop t pattern n first d₀ d = Unmatched pattern t (λ e. e) (length t) d
+Inv-loop t pattern n head d₀ d = Unmatched pattern t (λ e. e) (length t) d
 
 abbrev μ-loop : tie.MeasureT-loop
-μ-loop t pattern n first d₀ d = length t - d
+μ-loop t pattern n head d₀ d = length t - d
 
 first-move-requires : tie.Need-first-move-requires Inv-loop μ-loop
 first-move-requires c κs = search needs
@@ -22,8 +22,8 @@ first-move-requires c κs = search needs
 returns : tie.Need-returns Inv-loop μ-loop
 returns c l = c .first-move .ensures _ (begins-empty _ _ (c .before .if1 .taken)) ∙ distance-right _ _
 
-shared-slice-read-first : tie.Need-shared-slice-read-first Inv-loop μ-loop
-shared-slice-read-first c = search needs
+shared-slice-read-head : tie.Need-shared-slice-read-head Inv-loop μ-loop
+shared-slice-read-head c = search needs
 
 loop-holds : tie.Need-loop-holds Inv-loop μ-loop
 loop-holds c = unmatched-start _ _ _ _ (c .before .if1 .left)
@@ -61,7 +61,7 @@ find-right-spec =
     μ-loop
     first-move-requires
     returns
-    shared-slice-read-first
+    shared-slice-read-head
     loop-holds
     shared-slice-read-if2
     run-begins-requires

@@ -1,4 +1,4 @@
--- `places::scan_right` meets its contract: fewer than d moves reach no place, so that those from d on decide.
+-- `places::scan_right` meets its contract: fewer than p moves reach no place, so that those from p on decide.
 use mathlib.Core.Path.{sym, _∙_}
 use Prim.Native.Nat.{_+_, _-_}
 use native.Mathlib.Omega.{arith}
@@ -9,10 +9,10 @@ use Rattle.editor.proofs.places.scan_right.Statement.{statement}
 use Rattle.editor.proofs.places.scan_right.Tie as tie
 
 abbrev Inv-loop : tie.InvT-loop
-Inv-loop place t n d₀ d = Scan (placeRight place t) (length t) 1 d
+Inv-loop place t n p₀ p = Scan (placeRight place t) (length t) 1 p
 
 abbrev μ-loop : tie.MeasureT-loop
-μ-loop place t n d₀ d = length t + 1 - d
+μ-loop place t n p₀ p = length t + 1 - p
 
 loop-holds : tie.Need-loop-holds Inv-loop μ-loop
 loop-holds c = scan-start _ _ _
@@ -25,8 +25,8 @@ returns c l =
     scan-found _ _ _ _ (c .before .before .before .loop .inv) (omega arith) (sym (c .before .stands .ensures) ∙ c .if1 .taken)
     ∙ distance-right _ l _
 
-add-d : tie.Need-add-d Inv-loop μ-loop
-add-d c = omega arith
+add-p : tie.Need-add-p Inv-loop μ-loop
+add-p c = omega arith
 
 loop-less : tie.Need-loop-less Inv-loop μ-loop
 loop-less c = omega arith
@@ -46,7 +46,7 @@ scan-right-spec =
     loop-holds
     stands-requires
     returns
-    add-d
+    add-p
     loop-less
     loop-again
     returns-2)
