@@ -4,7 +4,7 @@ use Rattle.editor.specs.Words.{List, [], _++_, Bool, true, false, _&&_, 
 use Rattle.gap.specs.Sequence.{part}
 use Rattle.gap.specs.Doc.{Doc}
 use Rattle.gap.specs.Layout.{gapped, paired, ungap, unpair, soundGap, soundPair}
-use Rattle.editor.specs.Plain.{Side, Plain, Did, SIZE, SESSION, Outcome, refused, done}
+use Rattle.editor.specs.Plain.{Side, Plain, SIZE, SESSION, Outcome, refused, done}
 use Rattle.editor.specs.Keys.{key}
 
 -- The stores that the editor works on; the screen is the window's.

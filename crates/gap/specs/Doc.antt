@@ -1,5 +1,5 @@
 -- The plain document and its single steps. (01, plain editor: document; 001, section 1.1.)
-use Rattle.gap.specs.Words.{List, [], _∷_, _++_, ℕ, zero, suc, _-_, length, take, drop, Direction, Left, Right}
+use Rattle.gap.specs.Words.{List, [], _++_, ℕ, zero, suc, _-_, length, take, drop, Direction, Left, Right}
 use Rattle.gap.specs.Sequence.{butLast, lastOf}
 
 -- A document is what stands before the cursor and what stands behind it. Recall pairs and the replacement have this shape too.

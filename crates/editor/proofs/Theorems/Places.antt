@@ -3,7 +3,6 @@ use mathlib.Core.Path.{_≡_, refl}
 use mathlib.Core.Bool.{Bool, true, false}
 use mathlib.Core.List.{List, [], _∷_, map}
 use Prim.Native.Nat.{ℕ}
-use Rattle.gap.specs.Doc.{Doc}
 use Rattle.editor.specs.Places.{lineBeginning, word}
 
 -- One text of each kind; 65 is a letter.

@@ -4,7 +4,7 @@ use mathlib.Core.Bool.{true}
 use mathlib.Core.List.{List, [], _∷_}
 use Prim.Native.Nat.{ℕ, _≤_}
 use native.Mathlib.Omega.{arith}
-use lib.ListN.{length, take, length-take}
+use lib.ListN.{take, length-take}
 use Rattle.gap.specs.Sequence.{every}
 use Rattle.gap.specs.Layout.{allowed}
 use Rattle.editor.specs.Words.{Key, Insert, Function, Recall, Quote, Find, Replace}

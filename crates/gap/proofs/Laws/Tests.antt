@@ -1,7 +1,7 @@
 -- Tests and what they tell: conjunctions, disjunctions and choices of Bools.
 use mathlib.Core.Path.{_≡_, refl, sym, ap, _∙_}
 use mathlib.Core.Logic.{_⊎_, inl, inr}
-use mathlib.Core.Bool.{Bool, true, false, not, _&&_, _||_, cond, false≢true}
+use mathlib.Core.Bool.{Bool, true, false, _&&_, _||_, cond, false≢true}
 
 -- A test is true or false; the equation goes to whoever asks.
 pub decided : (t : Bool) → (t ≡ true) ⊎ (t ≡ false)

@@ -15,7 +15,7 @@ use Rattle.gap.specs.Doc.{times}
 use Rattle.gap.specs.Lines.{newline}
 use Rattle.gap.proofs.Laws.Sequence.{every-both, length-part}
 use Rattle.window.specs.Words.{Frame}
-use Rattle.window.specs.Painter.{Painting, above, over, lineEnd, paint, finishPaint, RunEnd, Easel}
+use Rattle.window.specs.Painter.{Painting, above, lineEnd, paint, finishPaint, RunEnd, Easel}
 use Rattle.window.proofs.Laws.Paint.{InRow, in-row, paint-append, paint-over, easel-on, easel-less}
 use Rattle.window.proofs.Laws.PaintedRun.{Run}
 use Rattle.window.proofs.Laws.DrawnCells.{Inside, row-end, run-row}

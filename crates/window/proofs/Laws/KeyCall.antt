@@ -1,26 +1,25 @@
 -- The key call: what its tests tell, what a refusal leaves, and that the editor's outcome shown through the window is `keyed`.
-use mathlib.Core.Path.{_≡_, refl, sym, ap, ap₂, subst, subst⁻¹, _∙_}
+use mathlib.Core.Path.{_≡_, refl, sym, ap, ap₂, _∙_}
 use mathlib.Core.Logic.{⊎-elim}
-use mathlib.Core.Bool.{Bool, true, false, _&&_, cond}
-use mathlib.Core.List.{List, [], _∷_, _++_}
-use Prim.Native.Nat.{ℕ, suc, _+_, _-_, _*_, _^_, _≤_, _<_}
+use mathlib.Core.Bool.{Bool, true, false, _&&_}
+use mathlib.Core.List.{List, [], _∷_}
+use Prim.Native.Nat.{ℕ, suc, _+_, _-_, _*_, _≤_, _<_}
 use native.Mathlib.Nat.{le-trans, mul-le-mul-left, mul-le-mul-right}
 use native.Mathlib.Omega.{arith}
-use lib.Dec.{eqb, leb, ltb}
-use lib.ListN.{length, take, length-append, length-take}
-use borrow.Author.Tests.{leb-true, eqb-true, eq-eqb}
+use lib.Dec.{eqb, leb}
+use lib.ListN.{length, length-append, length-take}
+use borrow.Author.Tests.{leb-true, eq-eqb}
 use Rattle.gap.specs.Doc.{Doc}
 use Rattle.gap.specs.Lines.{newline, newlines, sinceAfter}
 use Rattle.gap.specs.Layout.{ungap}
-use Rattle.gap.proofs.Laws.Tests.{decided, clash, and-left, and-right, and-both, cond-true, cond-false}
+use Rattle.gap.proofs.Laws.Tests.{decided, and-left, and-right, and-both, cond-true, cond-false}
 use Rattle.gap.proofs.Laws.Layout.{length-gapped}
 use Rattle.editor.specs.declared.Reply.{Reply as editorReply}
-use Rattle.editor.specs.Plain.{Plain, Did, Outcome, refused, done, SIZE, SESSION, KEY, FULL}
+use Rattle.editor.specs.Plain.{Plain, Did, Outcome, refused, done, SIZE, SESSION}
 use Rattle.editor.specs.Keys.{key}
 use Rattle.editor.specs.Bytes.{Stores, quarter, quarterOf, sized, plainOf, lengthsOf, storesOf, editorOk, editedTo}
 use Rattle.editor.specs.Promise.{Sound, stores, replied}
 use Rattle.editor.proofs.Laws.Fitting.{fitting}
-use Rattle.editor.proofs.Laws.Sound.{SoundPlain}
 use Rattle.editor.proofs.Theorems.Layouts.{plain-of-encoded, session-encoded, encoded-sized, encoded-ok}
 use Rattle.editor.proofs.Theorems.Sessions.{key-keeps}
 use Rattle.editor.proofs.Theorems.Refusals.{refused-number}
@@ -29,12 +28,12 @@ use Rattle.window.specs.declared.Spot.{Spot}
 use Rattle.window.specs.declared.Pen.{Pen}
 use Rattle.window.specs.declared.Reply.{Reply}
 use Rattle.window.specs.Window.{virtual, virtualIn, rowOf, columnOf, window, visible, policy}
-use Rattle.window.specs.Core.{Lent, Called, T, rowsAndColumns, tabled, isSession, turnedDown, shown, finished, keyed, held, lentOf}
+use Rattle.window.specs.Core.{Lent, Called, T, rowsAndColumns, tabled, isSession, shown, finished, keyed, held, lentOf}
 use Rattle.window.specs.Rows.{firstRow, lastRow}
 use Rattle.window.specs.Painter.{Canvas}
 use Rattle.window.specs.Calls.{spotIn, visibleAt, policyAt, Texts, virtualHeld, Refreshed, lent, called, reported}
 use Rattle.window.proofs.Laws.Window.{policy-visible, Visible, visible-says}
-use Rattle.window.proofs.Laws.Views.{Tabled, tabled-facts, session-view}
+use Rattle.window.proofs.Laws.Views.{tabled-facts, session-view}
 use Rattle.window.proofs.Theorems.Sessions.{session-keyed}
 
 -- ---- Tests

@@ -1,6 +1,6 @@
 -- Good views: plain states seen through a window. Their encodings are the sessions, and the key call on one is the plain
 -- editor's key.
-use mathlib.Core.Path.{_≡_, sym, ap, ap₂, _∙_}
+use mathlib.Core.Path.{_≡_, ap, ap₂, _∙_}
 use mathlib.Core.Bool.{true, _&&_}
 use mathlib.Core.List.{List}
 use Prim.Native.Nat.{ℕ, _*_, _≤_}

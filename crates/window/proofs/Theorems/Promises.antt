@@ -9,7 +9,7 @@ use Rattle.editor.specs.Plain.{opening}
 use Rattle.editor.specs.Keys.{key, keys, after}
 use Rattle.editor.specs.Bytes.{quarter}
 use Rattle.window.specs.Words.{Session}
-use Rattle.window.specs.Core.{Lent, Called, T, tabled, held, isSession, unopened, turnedDown, opened, keyed}
+use Rattle.window.specs.Core.{Lent, Called, T, tabled, held, isSession, unopened, turnedDown}
 use Rattle.window.specs.Promise.{OpenPromise, KeyPromise}
 use Rattle.window.specs.Terminal.{Bench, given, openingView, struck, typed, viewed, picture}
 use Rattle.window.proofs.Theorems.Refusals.{opening-leaves, key-leaves}

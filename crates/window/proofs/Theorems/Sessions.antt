@@ -1,25 +1,24 @@
 -- Sessions: an opened text is one, every key leads from one to one, and on every session the key on bytes is the key on the
 -- plain state.
-use mathlib.Core.Path.{_≡_, refl, ap, ap₂, subst⁻¹, _∙_}
+use mathlib.Core.Path.{_≡_, refl, ap, subst⁻¹, _∙_}
 use mathlib.Core.Bool.{true}
 use mathlib.Core.List.{List, []}
 use Prim.Native.Nat.{ℕ, _+_, _≤_}
 use native.Mathlib.Omega.{arith}
-use lib.Dec.{leb}
-use lib.ListN.{length, take}
+use lib.ListN.{take}
 use borrow.Author.Tests.{leb-true, le-leb}
 use Rattle.gap.specs.Lines.{newlines, sinceAfter}
-use Rattle.gap.proofs.Laws.Tests.{and-left, and-right, and-both, cond-true}
+use Rattle.gap.proofs.Laws.Tests.{and-both, cond-true}
 use Rattle.editor.specs.declared.Key.{Key}
-use Rattle.editor.specs.Plain.{Plain, opening, Outcome, refused, done}
+use Rattle.editor.specs.Plain.{Plain, Outcome, refused, done}
 use Rattle.editor.specs.Keys.{key, after}
 use Rattle.editor.specs.Bytes.{quarter}
 use Rattle.editor.proofs.Theorems.Sessions.{opening-sound}
 use Rattle.window.specs.Words.{Session}
 use Rattle.window.specs.Window.{virtualIn, virtual, visible, policy}
-use Rattle.window.specs.Core.{Lent, Called, T, tabled, isSession, held, start, openedText, unlessBad, badByte, opened, turnedDown, shown, finished, keyed}
+use Rattle.window.specs.Core.{Lent, Called, T, tabled, isSession, held, start, openedText, opened, shown, finished, keyed}
 use Rattle.window.specs.Terminal.{View, openingView, looked, picture}
-use Rattle.window.proofs.Laws.Views.{Tabled, tabled-facts, Good, recordOf, storesWith, viewOf, session-view, view-held, view-tabled, view-session, looked-good}
+use Rattle.window.proofs.Laws.Views.{tabled-facts, Good, viewOf, session-view, view-held, view-tabled, view-session, looked-good}
 use Rattle.window.proofs.Theorems.Refusals.{opening-accepted, opening-done}
 use Rattle.window.proofs.Laws.Window.{length-window}
 

@@ -1,5 +1,4 @@
 -- `show` follows the cursor, paints and names rows: what the definition shows of the state held.
-use mathlib.Core.Path.{_≡_}
 use borrow.Author.Needs.{needs}
 use Rattle.window.specs.Calls.{virtualHeld}
 use Rattle.window.proofs.Laws.KeyCall.{texts-held, row-from-one, still-visible, offset-row, offset-column, shown-canvas, shows-so}
