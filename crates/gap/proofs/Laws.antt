@@ -11,3 +11,5 @@ pub mod Scans
 pub mod StoreTests
 pub mod LineScans
 pub mod Moves
+pub mod Decimals
+pub mod Writers

@@ -2,3 +2,4 @@ pub mod Distance
 pub mod DocProperties
 pub mod PlaceTheorem
 pub mod Flatten
+pub mod Decimals

@@ -3,19 +3,15 @@
 use Rattle.window.specs.Words.{List, [], _∷_, _++_, map, Bool, true, false, _&&_, cond, ℕ, zero, suc, _-_, _*_, eqb, length}
 use Rattle.window.specs.Words.{Left, Right, Move, Delete, Character, Word, LineBeginning, LineEnding, Document}
 use Rattle.window.specs.Words.{Key, Insert, Function, Recall, Quote, Find, Replace}
-use Prim.Native.Char.{code}
 use Prim.Native.String.{String}
 use Rattle.gap.specs.Sequence.{sameBytes, zeros}
+use Rattle.gap.specs.Strings.{bytes}
 use Rattle.gap.specs.Doc.{Doc, content}
 use Rattle.editor.specs.Bytes.{quarter}
 use Rattle.window.specs.Rows.{screenRow}
 use Rattle.window.specs.Core.{Called, held, opened, keyed}
 
--- A text's bytes, and a document written with `|` (124) at its cursor.
-unfoldable pub bytes : String → List ℕ
-bytes String.[] = []
-bytes (String._∷_ c s) = code c ∷ bytes s
-
+-- A document written with `|` (124) at its cursor.
 unfoldable pub markedAfter : List ℕ → List ℕ → Doc
 markedAfter l [] = record { l = l; r = [] }
 markedAfter l (b ∷ s) = cond (eqb b 124) (record { l = l; r = s }) (markedAfter (l ++ (b ∷ [])) s)

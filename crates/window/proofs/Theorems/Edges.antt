@@ -2,6 +2,7 @@
 use mathlib.Core.Path.{_≡_, refl}
 use mathlib.Core.Bool.{true}
 use Rattle.gap.specs.Sequence.{every, sameBytes, begins, part, zeros, counted}
+use Rattle.gap.specs.Strings.{bytes}
 use Rattle.gap.specs.Doc.{move, delete, times, passed, removed, splice}
 use Rattle.gap.specs.Nearest.{nearest, distance}
 use Rattle.gap.specs.Lines.{newlines, sinceAfter, lines}
@@ -12,7 +13,7 @@ use Rattle.editor.specs.Bytes.{quarter, sized, plainOf, lengthsOf, storesOf, ed
 use Rattle.window.specs.Window.{virtualIn, rowCells, joined, window, visible, policy}
 use Rattle.window.specs.Rows.{firstRow, lastRow}
 use Rattle.window.specs.Core.{tabled, isSession, openedText, opened, shown, finished, keyed}
-use Rattle.window.specs.Table.{bytes, markedAfter, pressing, moving, outcome, holds, allHold, right, edges}
+use Rattle.window.specs.Table.{markedAfter, pressing, moving, outcome, holds, allHold, right, edges}
 
 pub edges-right : right edges ≡ true
 unfolding every sameBytes begins part zeros counted move delete times passed splice nearest distance newlines sinceAfter lines gapped paired ungap unpair soundGap soundPair lineBeginning lineEnding word documentEnd isAt soundKey inserted removed carried function recalled onSide quoted withPattern searched found withReplacement exchanged substituted replaced pressed fits bounded key quarter sized plainOf lengthsOf storesOf editorOk virtualIn rowCells joined window visible policy firstRow lastRow tabled isSession openedText opened shown finished keyed bytes markedAfter pressing moving outcome holds allHold right

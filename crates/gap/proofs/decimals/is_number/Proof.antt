@@ -1,0 +1,24 @@
+-- `is_number`: a length that is none of a number decides by itself, and for any other the bytes do.
+use borrow.Author.Needs.{needs}
+use Rattle.gap.proofs.Laws.Decimals.{number-short, number-long, number-tests}
+use Rattle.gap.proofs.decimals.is_number.Statement.{statement}
+use Rattle.gap.proofs.decimals.is_number.Tie as tie
+
+returns : tie.Need-returns
+returns c = number-short _ (c .if1 .taken)
+
+returns-2 : tie.Need-returns-2
+returns-2 c = number-long _ (c .if2 .taken)
+
+all-digits-requires : tie.Need-all-digits-requires
+all-digits-requires c κs = search needs
+
+shared-slice-read-result : tie.Need-shared-slice-read-result
+shared-slice-read-result c = search needs
+
+returns-3 : tie.Need-returns-3
+returns-3 c = number-tests _ (c .before .before .before .if1 .left) (c .before .before .if2 .left) (c .before .all-digits .ensures)
+
+pub is-number-spec : {M : Type 1} → statement M
+is-number-spec =
+    tie.close (tie.spec returns returns-2 all-digits-requires shared-slice-read-result returns-3)

@@ -1,0 +1,24 @@
+-- `number_of` reads a number where the test of the bytes says that they write one.
+use mathlib.Core.Path.{sym, ap, _∙_}
+use borrow.Author.Needs.{needs}
+use Rattle.gap.specs.declared.Number.the-variants.{Read}
+use Rattle.gap.proofs.Laws.Decimals.{number-is, number-read, number-unread}
+use Rattle.gap.proofs.decimals.number_of.Statement.{statement}
+use Rattle.gap.proofs.decimals.number_of.Tie as tie
+
+is-number-requires : tie.Need-is-number-requires
+is-number-requires c κs = search needs
+
+value-of-requires : tie.Need-value-of-requires
+value-of-requires c κs =
+    let is = number-is _ (sym (c .before .is-number .ensures) ∙ c .if1 .taken) in
+    (is .few, is .digits)
+
+returns : tie.Need-returns
+returns c = ap Read (c .value-of .ensures) ∙ number-read _ (sym (c .before .before .is-number .ensures) ∙ c .before .if1 .taken)
+
+returns-2 : tie.Need-returns-2
+returns-2 c = number-unread _ (sym (c .before .is-number .ensures) ∙ c .if1 .left)
+
+pub number-of-spec : {M : Type 1} → statement M
+number-of-spec = tie.close (tie.spec is-number-requires value-of-requires returns returns-2)

@@ -1,0 +1,83 @@
+// Decimal numbers read and written.
+use crate::Number;
+ghost use mathlib.Core.Path.{_≡_};
+ghost use mathlib.Core.Bool.{true};
+ghost use mathlib.Core.List.{[], _∷_};
+ghost use Prim.Native.Nat.{_+_, _≤_, _<_};
+ghost use lib.ListN.{length};
+ghost use Rattle.gap.specs.Sequence.{every};
+ghost use Rattle.gap.specs.Decimal.{digit, value, isNumber, numberOf, decimal};
+ghost use Rattle.gap.specs.Written.{Wrote};
+
+// Every byte is a digit.
+fn all_digits(s: &[u8]) -> bool
+    ensures { λ r. ⌜ r ≡ every digit (now (s .entry)) ⌝ }
+{
+    let mut ok = true;
+    let mut i = 0;
+    while i < s.len() {
+        let b = s[i];
+        ok = ok & ((48 <= b) & (b <= 57));
+        i += 1;
+    }
+    ok
+}
+
+// The bytes write a number. The length comes first, so that a long line is not gone through.
+fn is_number(s: &[u8]) -> bool
+    ensures { λ r. ⌜ r ≡ isNumber (now (s .entry)) ⌝ }
+{
+    if s.len() < 1 {
+        return false;
+    }
+    if 5 < s.len() {
+        return false;
+    }
+    all_digits(s) & ((s.len() == 1) | (s[0] != 48))
+}
+
+// What the digits are worth: at most five, so that no sum can wrap.
+fn value_of(s: &[u8]) -> usize
+    requires { ⌜ (length (now s) ≤ 5) × (every digit (now s) ≡ true) ⌝ }
+    ensures { λ n. ⌜ n ≡ value (now (s .entry)) ⌝ }
+{
+    let mut n: usize = 0;
+    let mut i = 0;
+    while i < s.len() {
+        let b = s[i];
+        n = n * 10 + (b - 48) as usize;
+        i += 1;
+    }
+    n
+}
+
+// The number that these bytes write, all of them.
+pub fn number_of(s: &[u8]) -> Number
+    ensures { λ n. ⌜ n ≡ numberOf (now (s .entry)) ⌝ }
+{
+    if is_number(s) {
+        return Number::Read(value_of(s));
+    }
+    Number::Unreadable
+}
+
+// One digit goes to place `at` of the store.
+fn put_digit(d: usize, out: &mut [u8], at: usize) -> usize
+    requires { ⌜ (d < 10) × (at < length (now out)) ⌝ }
+    ensures { λ next. ⌜ Wrote at ((48 + d) ∷ []) (now (out .entry)) next (now (out .exit)) ⌝ }
+{
+    out[at] = (48 + d) as u8;
+    at + 1
+}
+
+// The digits of n go to place `at` of the store: first those of its tenth part, then the last one.
+pub fn put_decimal(n: usize, out: &mut [u8], at: usize) -> usize
+    requires { ⌜ at + length (decimal n) ≤ length (now out) ⌝ }
+    ensures { λ next. ⌜ Wrote at (decimal n) (now (out .entry)) next (now (out .exit)) ⌝ }
+{
+    if n < 10 {
+        return put_digit(n, out, at);
+    }
+    let last = put_decimal(n / 10, out, at);
+    put_digit(n % 10, out, last)
+}
