@@ -1,5 +1,8 @@
 -- Newlines and lines of a text. (01, the window: lines, cursor.)
-use Rattle.gap.specs.Words.{List, [], _∷_, cond, ℕ, suc, eqb}
+use mathlib.Core.Path.{_≡_}
+use Prim.Native.Nat.{_≤_}
+use Rattle.gap.specs.Words.{List, [], _∷_, true, not, cond, ℕ, suc, _-_, eqb, length}
+use Rattle.gap.specs.Sequence.{every, part}
 
 -- The byte between two lines.
 abbrev pub newline : ℕ
@@ -26,3 +29,9 @@ longer b (first ∷ rest) = (b ∷ first) ∷ rest
 unfoldable pub lines : List ℕ → List (List ℕ)
 lines [] = [] ∷ []
 lines (b ∷ s) = cond (eqb b newline) ([] ∷ lines s) (longer b (lines s))
+
+-- There is no newline from place a up to place e.
+pub record Unbroken (s : List ℕ) (a e : ℕ) : Type 0 where
+  pub low : a ≤ e
+  pub high : e ≤ length s
+  pub bytes : every (λ b. not (eqb b newline)) (part a (e - a) s) ≡ true

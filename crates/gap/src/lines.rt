@@ -1,8 +1,11 @@
 // Newlines of a run of bytes.
 ghost use mathlib.Core.Path.{_≡_};
+ghost use mathlib.Core.Bool.{not};
 ghost use Prim.Native.Nat.{_+_, _^_, _≤_, _<_};
+ghost use lib.Dec.{eqb};
 ghost use lib.ListN.{length};
-ghost use Rattle.gap.specs.Lines.{newlines, sinceAfter};
+ghost use Rattle.gap.specs.Sequence.{every};
+ghost use Rattle.gap.specs.Lines.{newline, newlines, sinceAfter, Unbroken};
 
 // The newlines of a short run, in a byte, so that the loop is vectorised.
 fn newlines_short(s: &[u8]) -> u8
@@ -19,7 +22,7 @@ fn newlines_short(s: &[u8]) -> u8
     count
 }
 
-// How many newlines there are, counted block by block.
+// How many newlines there are, counted block by block. A block of 192 bytes is whole vectors, with no rest to count byte by byte.
 pub fn count_newlines(s: &[u8]) -> usize
     ensures { λ r. ⌜ r ≡ newlines (now (s .entry)) ⌝ }
 {
@@ -28,8 +31,8 @@ pub fn count_newlines(s: &[u8]) -> usize
     let mut i = 0;
     while i < n {
         let mut size = n - i;
-        if 240 < size {
-            size = 240;
+        if 192 < size {
+            size = 192;
         }
         let end = i + size;
         count += newlines_short(&s[i..end]) as usize;
@@ -38,12 +41,59 @@ pub fn count_newlines(s: &[u8]) -> usize
     count
 }
 
+// A run has a newline. The loop carries a flag and has neither branch nor exit, so that it is vectorised.
+fn has_newline(s: &[u8]) -> bool
+    ensures { λ r. ⌜ r ≡ not (every (λ b. not (eqb b newline)) (now (s .entry))) ⌝ }
+{
+    let mut none = true;
+    let mut i = 0;
+    while i < s.len() {
+        none = none & (s[i] != 10);
+        i += 1;
+    }
+    !none
+}
+
+// A place from which on there is no newline: from the back, in blocks of 32 bytes, only as far as one that has a newline.
+fn back_without(s: &[u8]) -> usize
+    ensures { λ r. ⌜ Unbroken (now (s .entry)) r (length (now (s .entry))) ⌝ }
+{
+    let mut i = s.len();
+    while 32 <= i {
+        let start = i - 32;
+        let front = &s[start..i];
+        if has_newline(front) {
+            return i;
+        }
+        i = start;
+    }
+    i
+}
+
+// A place up to which there is no newline from place `at` on: the same in the other direction.
+pub fn front_without(s: &[u8], at: usize) -> usize
+    requires { ⌜ at ≤ length (now s) ⌝ }
+    ensures { λ r. ⌜ Unbroken (now (s .entry)) at r ⌝ }
+{
+    let n = s.len();
+    let mut i = at;
+    while 32 <= n - i {
+        let end = i + 32;
+        let behind = &s[i..end];
+        if has_newline(behind) {
+            return i;
+        }
+        i = end;
+    }
+    i
+}
+
 // The bytes since the last newline, of a run that follows n bytes of its line: from the back, only as far as that newline.
 pub fn since_newline(n: usize, s: &[u8]) -> usize
     requires { ⌜ n + length (now s) < 2 ^ 64 ⌝ }
     ensures { λ r. ⌜ r ≡ sinceAfter n (now (s .entry)) ⌝ }
 {
-    let mut i = s.len();
+    let mut i = back_without(s);
     while 0 < i {
         let last = i - 1;
         if s[last] == 10 {

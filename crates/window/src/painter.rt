@@ -5,6 +5,7 @@ use crate::Pen;
 use editor::Lengths;
 use editor::Mode;
 use gap::lines::count_newlines;
+use gap::lines::front_without;
 use gap::lines::since_newline;
 ghost use mathlib.Core.Path.{_≡_};
 ghost use mathlib.Core.Bool.{not, true, false};
@@ -179,7 +180,7 @@ fn run_end(t: &[u8], i: usize) -> usize
     requires { ⌜ i ≤ length (now t) ⌝ }
     ensures { λ e. ⌜ RunEnd (now (t .entry)) i e ⌝ }
 {
-    let mut e = i;
+    let mut e = front_without(t, i);
     while e < t.len() {
         if t[e] == 10 {
             return e;

@@ -1,16 +1,19 @@
--- Laws of loops over newlines: counted from the front, byte by byte or block by block, and looked for from the back.
+-- Laws of loops over newlines, byte by byte or block by block: counted from the front, and looked for from the back or from a place on.
 use mathlib.Core.Path.{_≡_, refl, sym, ap, _∙_}
-use mathlib.Core.Bool.{Bool, true, false, cond}
+use mathlib.Core.Bool.{Bool, true, false, not, cond}
 use mathlib.Core.List.{List, [], _∷_}
 use Prim.Native.Nat.{ℕ, suc, _+_, _-_, _≤_, _<_}
 use native.Mathlib.Omega.{arith}
 use mir.Val.{boolByte}
 use lib.Dec.{eqb}
-use lib.ListN.{length, take, drop, getD, take-append-drop, drop-of-length-le}
-use lib.Seq.{drop-drop, drop-cons, take-suc, take-length}
-use borrow.Author.Tests.{eq-eqb, ne-eqb}
-use Rattle.gap.specs.Lines.{newline, newlines, sinceAfter}
-use Rattle.gap.proofs.Laws.Tests.{cond-true, cond-false}
+use lib.ListN.{length, take, drop, getD, take-append-drop, drop-of-length-le, length-drop}
+use lib.Seq.{drop-drop, drop-cons, take-add, take-suc}
+use borrow.Author.Tests.{ne-eqb, not-true, not-false}
+use borrow.Rule.Slice.PartAt.{part-to-end}
+use Rattle.gap.specs.Sequence.{every, part}
+use Rattle.gap.specs.Lines.{newline, newlines, sinceAfter, Unbroken}
+use Rattle.gap.proofs.Laws.Tests.{and-left, and-right}
+use Rattle.gap.proofs.Laws.Sequence.{every-both}
 use Rattle.gap.proofs.Laws.Lines.{newlines-append, since-append}
 
 -- count is the number of newlines among the first i bytes of s.
@@ -60,30 +63,67 @@ module _ (s : List ℕ) where
     unfolding newlines
     counted-all end = sym (so-far .rest ∙ rw drop-of-length-le (omega arith))
 
--- The bytes of s from place i on have no newline.
-pub record Unbroken (n : ℕ) (s : List ℕ) (i : ℕ) : Type 0 where
-  pub within : i ≤ length s
-  pub rest : sinceAfter n s ≡ sinceAfter n (take i s) + (length s - i)
+-- Any byte but a newline is within a line; as long as there are only such, the column goes on.
+abbrev within-line : ℕ → Bool
+within-line b = not (eqb b newline)
 
-module _ (n : ℕ) (s : List ℕ) where
-  pub unbroken-start : Unbroken n s (length s)
-  unbroken-start = record { within = omega arith; rest = rw take-length (omega arith) }
+since-goes-on : (n : ℕ) (s : List ℕ) → every within-line s ≡ true → sinceAfter n s ≡ n + length s
+unfolding every sinceAfter
+since-goes-on n [] p = omega arith
+since-goes-on n (b ∷ s) p =
+    ap (λ is. sinceAfter (cond is 0 (suc n)) s) (not-true (eqb b newline) (and-left (within-line b) _ p))
+    ∙ since-goes-on (suc n) s (and-right (within-line b) _ p)
+    ∙ omega arith
 
-  module _ (i : ℕ) (so-far : Unbroken n s i) where
-    pub unbroken-all : i ≤ 0 → n + length s ≡ sinceAfter n s
-    unfolding sinceAfter
-    unbroken-all end = let none : i ≡ 0 = omega arith in sym (so-far .rest ∙ rw none (omega arith))
+-- A stretch without a newline is empty, was tested as a block or as a byte, or is two such that meet.
+module _ {s : List ℕ} where
+  pub unbroken-none : {a : ℕ} → a ≤ length s → Unbroken s a a
+  unfolding every part
+  unbroken-none {a} fits = let none : a - a ≡ 0 = omega arith in record { low = omega arith; high = fits; bytes = rw none }
 
-    -- The byte before place i decides, or those before it do.
-    module _ (more : 0 < i) where
-      last-byte : sinceAfter n (take i s) ≡ cond (eqb (getD s (i - 1) 0) newline) 0 (suc (sinceAfter n (take (i - 1) s)))
-      unfolding sinceAfter
-      last-byte =
-          let same : i ≡ suc (i - 1) = omega arith in
-          ap (λ k. sinceAfter n (take k s)) same ∙ rw (take-suc s (i - 1) 0 (omega arith), since-append)
+  pub unbroken-block : {a e : ℕ} {found : Bool} → a ≤ e → e ≤ length s
+      → found ≡ not (every within-line (take (e - a) (drop a s))) → found ≡ false → Unbroken s a e
+  unfolding part
+  unbroken-block later fits tested none = record { low = later; high = fits; bytes = not-false _ (sym tested ∙ none) }
 
-      pub unbroken-found : getD s (i - 1) 0 ≡ newline → length s - i ≡ sinceAfter n s
-      unbroken-found e = omega (arith, so-far .rest, last-byte ∙ cond-true _ _ (eq-eqb _ _ e))
+  pub unbroken-byte : {a e : ℕ} → e ≡ a + 1 → e ≤ length s → (getD s a 0 ≡ newline → ⊥) → Unbroken s a e
+  unfolding every part
+  unbroken-byte {a} {e} next fits other =
+      let one : e - a ≡ 1 = omega arith in
+      record { low = omega arith; high = fits; bytes = rw (one, drop-cons s a 0 (omega arith), ne-eqb (getD s a 0) newline other) }
 
-      pub unbroken-more : (getD s (i - 1) 0 ≡ newline → ⊥) → Unbroken n s (i - 1)
-      unbroken-more e = record { within = omega arith; rest = omega (arith, so-far .rest, last-byte ∙ cond-false _ _ (ne-eqb _ _ e)) }
+  pub unbroken-both : {a m e : ℕ} → Unbroken s a m → Unbroken s m e → Unbroken s a e
+  unfolding part
+  unbroken-both {a} {m} {e} front behind =
+      let whole : e - a ≡ (m - a) + (e - m) = omega arith in
+      let middle : a + (m - a) ≡ m = omega arith in
+      record {
+        low = omega arith;
+        high = behind .high;
+        bytes =
+            rw (whole, take-add, drop-drop, middle)
+            (every-both within-line (take (m - a) (drop a s)) (take (e - m) (drop m s)) (front .bytes) (behind .bytes));
+      }
+
+-- There is no newline from place i on: the byte before it decides, or nothing is before it.
+module _ {s : List ℕ} {i : ℕ} (n : ℕ) (so-far : Unbroken s i (length s)) where
+  rest : sinceAfter n s ≡ sinceAfter n (take i s) + (length s - i)
+  unfolding part
+  rest =
+      let behind : every within-line (drop i s) ≡ true = rw part-to-end at (so-far .bytes) in
+      ap (sinceAfter n) (sym (take-append-drop i s))
+      ∙ since-append n (take i s) (drop i s)
+      ∙ since-goes-on _ (drop i s) behind
+      ∙ rw length-drop
+
+  pub since-none : i ≤ 0 → n + length s ≡ sinceAfter n s
+  unfolding sinceAfter
+  since-none end = let none : i ≡ 0 = omega arith in sym (rest ∙ rw none (omega arith))
+
+  pub since-found : 0 < i → getD s (i - 1) 0 ≡ newline → length s - i ≡ sinceAfter n s
+  unfolding sinceAfter
+  since-found more e =
+      let same : i ≡ suc (i - 1) = omega arith in
+      let last = take-suc s (i - 1) 0 (omega arith) in
+      let front : sinceAfter n (take i s) ≡ 0 = ap (λ k. sinceAfter n (take k s)) same ∙ rw (last, since-append, e) in
+      omega (arith, rest)

@@ -1,60 +1,27 @@
 -- Laws of the painter's loops over a text: the run up to a newline, a text drawn run by run, and the lines that end below it.
 use mathlib.Core.Path.{_≡_, refl, sym, ap, _∙_}
-use mathlib.Core.Bool.{true, false, not}
+use mathlib.Core.Bool.{false}
 use mathlib.Core.List.{List, [], _∷_, _++_}
 use Prim.Native.Nat.{ℕ, suc, _+_, _-_, _≤_, _<_}
 use native.Mathlib.Numerals.{add-one}
 use native.Mathlib.Omega.{arith}
-use lib.Dec.{eqb}
-use lib.ListN.{length, take, drop, getD, take-append-drop, drop-of-length-le, length-drop}
-use lib.Seq.{drop-cons, drop-drop, getD-drop, take-suc}
-use borrow.Author.Tests.{ne-eqb, ltb-false, le-ltb, le-leb, lt-leb}
+use lib.ListN.{length, drop, getD, take-append-drop, drop-of-length-le}
+use lib.Seq.{drop-cons, drop-drop}
+use borrow.Author.Tests.{ltb-false, le-ltb, le-leb, lt-leb}
 use borrow.Rule.Slice.PartMut.{midOf}
-use Rattle.gap.specs.Sequence.{every, part}
+use Rattle.gap.specs.Sequence.{part}
 use Rattle.gap.specs.Doc.{times}
-use Rattle.gap.specs.Lines.{newline}
-use Rattle.gap.proofs.Laws.Sequence.{every-both, length-part}
+use Rattle.gap.specs.Lines.{newline, Unbroken}
+use Rattle.gap.proofs.Laws.Sequence.{length-part}
 use Rattle.window.specs.Words.{Frame}
 use Rattle.window.specs.Painter.{Painting, above, lineEnd, paint, finishPaint, RunEnd, Easel}
 use Rattle.window.proofs.Laws.Paint.{InRow, in-row, paint-append, paint-over, easel-on, easel-less}
 use Rattle.window.proofs.Laws.PaintedRun.{Run}
 use Rattle.window.proofs.Laws.DrawnCells.{Inside, row-end, run-row}
 
--- A run without newline was followed from place i up to e.
-pub record Followed (t : List ℕ) (i e : ℕ) : Type 0 where
-  pub low : i ≤ e
-  pub high : e ≤ length t
-  pub unbroken : every (λ b. not (eqb b newline)) (part i (e - i) t) ≡ true
-
--- A part grows by the byte behind it.
-part-more : (i e : ℕ) (t : List ℕ) → i ≤ e → e < length t → part i (e + 1 - i) t ≡ part i (e - i) t ++ (getD t e 0 ∷ [])
-unfolding part
-part-more i e t low more =
-    let one : e + 1 - i ≡ suc (e - i) = omega arith in
-    let here : i + (e - i) ≡ e = omega arith in
-    ap (λ k. take k (drop i t)) one
-    ∙ take-suc (drop i t) (e - i) 0 (rw length-drop (omega arith))
-    ∙ ap (λ b. take (e - i) (drop i t) ++ (b ∷ [])) (getD-drop i t (e - i) 0 ∙ ap (λ k. getD t k 0) here)
-
-module _ (t : List ℕ) (i : ℕ) where
-  pub followed-none : i ≤ length t → Followed t i i
-  unfolding part every
-  followed-none within = let none : i - i ≡ 0 = omega arith in record { low = omega arith; high = within; unbroken = rw none }
-
-  module _ (e : ℕ) (so-far : Followed t i e) where
-    pub followed-more : e < length t → (getD t e 0 ≡ newline → ⊥) → Followed t i (e + 1)
-    unfolding every
-    followed-more more other = record {
-      low = omega (arith, so-far .low);
-      high = omega arith;
-      unbroken =
-          let last = getD t e 0 ∷ [] in
-          rw (part-more i e t (so-far .low) more)
-          (every-both (λ b. not (eqb b newline)) (part i (e - i) t) last (so-far .unbroken) (rw (ne-eqb (getD t e 0) newline other)));
-    }
-
-    pub followed-all : (e < length t → getD t e 0 ≡ newline) → RunEnd t i e
-    followed-all stop = record { low = so-far .low; high = so-far .high; unbroken = so-far .unbroken; stop = stop }
+-- A run without newline ends before a newline, or where the text does.
+pub run-ends : {t : List ℕ} {i e : ℕ} → Unbroken t i e → (e < length t → getD t e 0 ≡ newline) → RunEnd t i e
+run-ends so-far stop = record { low = so-far .low; high = so-far .high; unbroken = so-far .bytes; stop = stop }
 
 -- A text from place i on, cut at a later place.
 split-at : (i e : ℕ) (t : List ℕ) → i ≤ e → drop i t ≡ midOf i (e - i) t ++ drop e t

@@ -16,7 +16,7 @@ abbrev μ-loop : tie.MeasureT-loop
 
 -- A block is not empty, is short, and ends within the text.
 block : (c : tie.Joined1 Inv-loop μ-loop)
-    → (0 < c .if1 .size) × (c .if1 .size ≤ 240)
+    → (0 < c .if1 .size) × (c .if1 .size ≤ 192)
     × (c .before .before .loop .i + c .if1 .size ≤ length (c .before .before .before .before .args .s .now))
 block c = ⊎-elim (λ w. omega arith) (λ w. omega arith) (c .if1 .came)
 
