@@ -1,7 +1,7 @@
 // Runs of bytes: clearing, copying, taking a run out of a store into a pair store, and shifting a run within a store.
 ghost use mathlib.Core.Path.{_≡_};
 ghost use mathlib.Core.List.{_++_};
-ghost use Prim.Native.Nat.{_+_, _-_, _≤_, _<_};
+ghost use Prim.Native.Nat.{_+_, _-_, _≤_, _<_, min};
 ghost use lib.ListN.{length, take, drop};
 ghost use Rattle.gap.specs.Sequence.{part, patch, zeros};
 
@@ -75,25 +75,33 @@ pub fn take_out(s: &mut [u8], at: usize, d: usize, pair: &mut [u8])
     vacate(s, at, d);
 }
 
+// The smaller of two numbers.
+fn smaller(a: usize, b: usize) -> usize
+    ensures { λ r. ⌜ r ≡ min a b ⌝ }
+{
+    if a < b {
+        return a;
+    }
+    b
+}
+
 // How many of n bytes go in the next block.
 pub fn block_of(n: usize) -> usize
     ensures { λ size. ⌜ (size ≤ n) × (size ≤ 256) × (0 < n → 0 < size) ⌝ }
 {
-    if n < 256 {
-        return n;
-    }
-    256
+    smaller(n, 256)
 }
 
-// A block of at most 256 bytes goes from one place to another, and its old place becomes 0. The block is taken out before it is
-// stored, so that the two places may overlap or be the same.
+// A block of at most 256 bytes is copied from one place to another. It is copied out before it is stored, so that the two places may
+// overlap or be the same.
 pub fn carry(s: &mut [u8], from: usize, to: usize, size: usize)
     requires { ⌜ size ≤ 256 ⌝ }
     requires { ⌜ (from + size ≤ length (now s)) × (to + size ≤ length (now s)) ⌝ }
-    ensures { λ _. ⌜ now (s .exit) ≡ patch to (part from size (now (s .entry))) (patch from (zeros size) (now (s .entry))) ⌝ }
+    ensures { λ _. ⌜ now (s .exit) ≡ patch to (part from size (now (s .entry))) (now (s .entry)) ⌝ }
 {
     let mut block = [0u8; 256];
-    take_out(s, from, size, &mut block);
+    let end = from + size;
+    copy_front(&mut block, &s[from..end]);
     copy_at(s, to, &block[..size]);
 }
 
@@ -109,10 +117,10 @@ fn block_at(from: usize, to: usize, d: usize, left: usize, size: usize) -> usize
     d - left
 }
 
-// A run of any length goes from one place to another, block by block, and its old place becomes 0.
-pub fn shift(s: &mut [u8], from: usize, to: usize, d: usize)
+// A run of any length is copied from one place to another, block by block; the two places may overlap or be the same.
+fn slide(s: &mut [u8], from: usize, to: usize, d: usize)
     requires { ⌜ (from + d ≤ length (now s)) × (to + d ≤ length (now s)) ⌝ }
-    ensures { λ _. ⌜ now (s .exit) ≡ patch to (part from d (now (s .entry))) (patch from (zeros d) (now (s .entry))) ⌝ }
+    ensures { λ _. ⌜ now (s .exit) ≡ patch to (part from d (now (s .entry))) (now (s .entry)) ⌝ }
 {
     let mut left = d;
     while 0 < left {
@@ -121,4 +129,20 @@ pub fn shift(s: &mut [u8], from: usize, to: usize, d: usize)
         carry(s, from + at, to + at, size);
         left -= size;
     }
+}
+
+// A run of any length goes from one place to another, and its old place becomes 0. The run is copied first; then only what its new
+// place leaves bare of the old one has to be cleared: bytes at the front on the way up, else at the end.
+pub fn shift(s: &mut [u8], from: usize, to: usize, d: usize)
+    requires { ⌜ (from + d ≤ length (now s)) × (to + d ≤ length (now s)) ⌝ }
+    ensures { λ _. ⌜ now (s .exit) ≡ patch to (part from d (now (s .entry))) (patch from (zeros d) (now (s .entry))) ⌝ }
+{
+    slide(s, from, to, d);
+    if from < to {
+        let bare = smaller(d, to - from);
+        vacate(s, from, bare);
+        return;
+    }
+    let bare = smaller(d, from - to);
+    vacate(s, from + (d - bare), bare);
 }

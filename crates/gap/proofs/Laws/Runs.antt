@@ -122,12 +122,12 @@ module _ (a d : ℕ) (s : List ℕ) (fits : a + d ≤ length s) where
       let same : t ≡ zeros d = e ∙ ap zeros (ap length part-lent ∙ length-part a d s fits) in
       rw same (part-back a (a + d - a) s (zeros d) (length-zeros d ∙ omega arith))
 
-  -- A part that a pair store holds alone, and one that stands at the front of a block.
+  -- A part that a pair store holds alone, and one that was copied to the front of a block.
   pub part-held : (n : ℕ) → midOf a (a + d - a) s ++ zeros (n - length (midOf a (a + d - a) s)) ≡ part a d s ++ zeros (n - d)
   part-held n = rw (part-lent, length-part a d s fits)
 
-  pub part-front : (block rest : List ℕ) → block ≡ part a d s ++ rest → take d block ≡ part a d s
-  part-front block rest e = rw e (take-at (part a d s) rest d (length-part a d s fits))
+  pub part-front : (block rest : List ℕ) → block ≡ midOf a (a + d - a) s ++ rest → take d block ≡ part a d s
+  part-front block rest e = rw (e, part-lent) (take-at (part a d s) rest d (length-part a d s fits))
 
 -- A patch that reaches to the end of the store.
 patch-end : (a : ℕ) (run s : List ℕ) → a + length run ≡ length s → patch a run s ≡ take a s ++ run

@@ -1,5 +1,5 @@
--- `carry` patches twice: zeros where the block stood, and then the block, which was taken out, where it goes.
-use mathlib.Core.Path.{sym, ap₂, _∙_}
+-- `carry` patches the store with the block, which stands at the front of a local array by then.
+use mathlib.Core.Path.{refl, sym, ap₂, _∙_}
 use native.Mathlib.Omega.{arith}
 use lib.Seq.{length-take-le}
 use borrow.Author.Needs.{needs}
@@ -8,37 +8,52 @@ use Rattle.gap.proofs.Laws.Runs.{part-front}
 use Rattle.gap.proofs.runs.carry.Statement.{statement}
 use Rattle.gap.proofs.runs.carry.Tie as tie
 
-slice-aggregate-take-out : tie.Need-slice-aggregate-take-out
-slice-aggregate-take-out c = search needs
+add-end : tie.Need-add-end
+add-end c = search needs
 
-take-out-requires : tie.Need-take-out-requires
-take-out-requires c κs = search needs
+slice-aggregate-copy-front : tie.Need-slice-aggregate-copy-front
+slice-aggregate-copy-front c = search needs
+
+sub-copy-front : tie.Need-sub-copy-front
+sub-copy-front c = search needs
+
+part-copy-front-start : tie.Need-part-copy-front-start
+part-copy-front-start c = search needs
+
+part-copy-front-end : tie.Need-part-copy-front-end
+part-copy-front-end c = search needs
+
+copy-front-requires : tie.Need-copy-front-requires
+copy-front-requires c κs = search needs
 
 array-share-prefix-block : tie.Need-array-share-prefix-block
 array-share-prefix-block c = search needs
 
 slice-aggregate-copy-at : tie.Need-slice-aggregate-copy-at
-slice-aggregate-copy-at c = sym (length-take-le _ _ (omega (arith, c .before .before .before .before .before .take-out .kept)))
+slice-aggregate-copy-at c = sym (length-take-le _ _ (omega (arith, c .before .before .before .copy-front .kept)))
 
 copy-at-requires : tie.Need-copy-at-requires
-copy-at-requires c κs = rw (sym (slice-aggregate-copy-at c)) (omega (arith, c .before .before .before .before .before .take-out .kept))
+copy-at-requires c κs = rw (sym (slice-aggregate-copy-at c)) (omega (arith, c .before .before .before .copy-front .kept))
 
 same-length : tie.Need-same-length
 same-length c = search needs
 
 returns : tie.Need-returns
 returns c =
-    let taken = c .before .before .before .before .before .before .before .before in
-    let pre = taken .before .before .before .before .pre in
-    let (cleared, holds) = taken .take-out .ensures in
-    c .before .before .copy-at .ensures ∙ ap₂ (patch _) (part-front _ _ _ (pre .1 .0) _ _ holds) cleared
+    let copied = c .before .before .before .before .before .before in
+    let pre = copied .before .before .before .before .before .pre in
+    c .before .before .copy-at .ensures ∙ ap₂ (patch _) (part-front _ _ _ (pre .1 .0) _ _ (copied .copy-front .ensures)) refl
 
 pub carry-spec : {M : Type 1} → statement M
 carry-spec =
     tie.close
     (tie.spec
-    slice-aggregate-take-out
-    take-out-requires
+    add-end
+    slice-aggregate-copy-front
+    sub-copy-front
+    part-copy-front-start
+    part-copy-front-end
+    copy-front-requires
     array-share-prefix-block
     slice-aggregate-copy-at
     copy-at-requires

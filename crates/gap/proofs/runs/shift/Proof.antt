@@ -1,69 +1,66 @@
--- `shift` carries block by block: the bytes that went have been carried as one run.
-use native.Mathlib.Omega.{arith}
+-- `shift` carries the run: the run slides, and what its new place leaves bare of the old one is cleared, at the front or at the end.
 use borrow.Author.Needs.{needs}
-use Rattle.gap.proofs.Laws.Shifts.{Shifting, shifting-none, shifting-more, shifting-all}
+use Rattle.gap.proofs.Laws.Shifts.{front-cleared, end-cleared}
 use Rattle.gap.proofs.runs.shift.Statement.{statement}
 use Rattle.gap.proofs.runs.shift.Tie as tie
 
-abbrev Inv-loop : tie.InvT-loop
-Inv-loop s₀ from to d left₀ s left = Shifting from to d s₀ left s
+slide-requires : tie.Need-slide-requires
+slide-requires c κs = search needs
 
-abbrev μ-loop : tie.MeasureT-loop
-μ-loop s₀ from to d left₀ s left = left
+sub-smaller : tie.Need-sub-smaller
+sub-smaller c = search needs
 
-loop-holds : tie.Need-loop-holds Inv-loop μ-loop
-loop-holds c = shifting-none _ _ _ _ (c .before .pre .0) (c .before .pre .1)
+smaller-requires : tie.Need-smaller-requires
+smaller-requires c κs = search needs
 
-block-of-requires : tie.Need-block-of-requires Inv-loop μ-loop
-block-of-requires c κs = search needs
+vacate-requires : tie.Need-vacate-requires
+vacate-requires c κs = search needs
 
-block-at-requires : tie.Need-block-at-requires Inv-loop μ-loop
-block-at-requires c κs = search needs
+same-length : tie.Need-same-length
+same-length c = search needs
 
-add-carry : tie.Need-add-carry Inv-loop μ-loop
-add-carry c = search needs
+returns : tie.Need-returns
+returns c =
+    let measured = c .before .before .before .before in
+    let slid = measured .before .before .before .before in
+    front-cleared _ _ _ _ _ (slid .before .before .before .pre) (measured .before .if1 .taken) (measured .smaller .ensures)
+    (slid .slide .ensures) (c .before .before .vacate .ensures)
 
-add-carry-2 : tie.Need-add-carry-2 Inv-loop μ-loop
-add-carry-2 c = search needs
+smaller-requires-2 : tie.Need-smaller-requires-2
+smaller-requires-2 c κs = search needs
 
-carry-requires : tie.Need-carry-requires Inv-loop μ-loop
-carry-requires c κs = search needs
+sub-vacate : tie.Need-sub-vacate
+sub-vacate c = search needs
 
-sub-left : tie.Need-sub-left Inv-loop μ-loop
-sub-left c = search needs
+add-vacate : tie.Need-add-vacate
+add-vacate c = search needs
 
-loop-less : tie.Need-loop-less Inv-loop μ-loop
-loop-less c =
-    let turn = c .before .before .before .before .before in
-    omega (arith, turn .block-of .ensures .2 (turn .before .loop-test .taken))
+vacate-requires-2 : tie.Need-vacate-requires-2
+vacate-requires-2 c κs = search needs
 
-loop-again : tie.Need-loop-again Inv-loop μ-loop
-loop-again c =
-    let placed = c .before .before .before .before in
-    let (within, last, front) = placed .block-at .ensures in
-    shifting-more (placed .before .before .before .loop .inv) (placed .before .block-of .ensures .0) last front
-    (c .before .before .carry .kept .0) (c .before .before .carry .ensures)
+same-length-2 : tie.Need-same-length-2
+same-length-2 c = search needs
 
-same-length : tie.Need-same-length Inv-loop μ-loop
-same-length c = c .before .loop .inv .same
-
-returns : tie.Need-returns Inv-loop μ-loop
-returns c = shifting-all (c .before .loop .inv) (c .loop-test .left)
+returns-2 : tie.Need-returns-2
+returns-2 c =
+    let measured = c .before .before .before .before in
+    let slid = measured .before .before .before .before in
+    end-cleared _ _ _ _ _ (slid .before .before .before .pre) (measured .before .if1 .left) (measured .smaller2 .ensures)
+    (slid .slide .ensures) (c .before .before .vacate2 .ensures)
 
 pub shift-spec : {M : Type 1} → statement M
 shift-spec =
     tie.close
     (tie.spec
-    Inv-loop
-    μ-loop
-    loop-holds
-    block-of-requires
-    block-at-requires
-    add-carry
-    add-carry-2
-    carry-requires
-    sub-left
-    loop-less
-    loop-again
+    slide-requires
+    sub-smaller
+    smaller-requires
+    vacate-requires
     same-length
-    returns)
+    returns
+    smaller-requires-2
+    sub-vacate
+    add-vacate
+    vacate-requires-2
+    same-length-2
+    returns-2)
