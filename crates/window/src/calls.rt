@@ -30,7 +30,7 @@ ghost use Rattle.window.specs.Calls.{lent, called, openingLengths, repor
 // ---- Sizes and sessions
 
 // H and W are as tabled.
-fn rows_and_columns(h: usize, w: usize) -> bool
+pub fn rows_and_columns(h: usize, w: usize) -> bool
     ensures { λ ok. ⌜ ok ≡ rowsAndColumns h w ⌝ }
 {
     ((1 <= h) & (h <= 64)) & ((1 <= w) & (w <= 256))

@@ -208,7 +208,7 @@ fn mode_number(mode: Mode) -> usize
     }
 }
 
-fn bit_of(b: bool) -> usize
+pub fn bit_of(b: bool) -> usize
     ensures { λ n. ⌜ n ≡ bit b ⌝ }
 {
     if b {

@@ -26,7 +26,7 @@ one-more true h = omega arith
 one-more false h = omega arith
 
 -- There are no more newlines than bytes.
-newlines-fit : (s : List ℕ) → newlines s ≤ length s
+pub newlines-fit : (s : List ℕ) → newlines s ≤ length s
 unfolding newlines
 newlines-fit [] = omega arith
 newlines-fit (b ∷ s) = one-more (eqb b newline) (newlines-fit s)

@@ -1,0 +1,8 @@
+-- Laws of the bench program.
+pub mod Compared
+pub mod KeyTable
+pub mod KeyNames
+pub mod ScriptLines
+pub mod Scripts
+pub mod Printed
+pub mod Turning

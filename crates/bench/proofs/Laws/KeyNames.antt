@@ -1,0 +1,35 @@
+-- Laws of names: what the five words name, and a name that was compared with a word or found to begin with `insert-`.
+use mathlib.Core.Path.{_≡_, refl, sym, ap, _∙_}
+use mathlib.Core.Bool.{Bool, true}
+use mathlib.Core.List.{List}
+use Prim.Native.Nat.{ℕ}
+use Prim.Native.String.{String}
+use Rattle.gap.specs.Sequence.{sameBytes, begins}
+use Rattle.gap.specs.Strings.{bytes}
+use Rattle.gap.specs.Decimal.{numberOf}
+use Rattle.gap.proofs.Laws.Sequence.{same-equal}
+use Rattle.gap.proofs.Laws.Runs.{tailOf, tail-lent}
+use Rattle.bench.specs.Words.{Left, Right, Recall, Quote, Find, Replace, Number, Naming, Named}
+use Rattle.bench.specs.Names.{insertNumbered, keyNamed}
+
+pub record FiveWords : Type 0 where
+  pub recall : Named Recall ≡ keyNamed (bytes "recall")
+  pub quote : Named Quote ≡ keyNamed (bytes "quote")
+  pub find : Named (Find Right) ≡ keyNamed (bytes "find")
+  pub upfind : Named (Find Left) ≡ keyNamed (bytes "upfind")
+  pub replace : Named Replace ≡ keyNamed (bytes "replace")
+
+pub five-words : FiveWords
+unfolding keyNamed begins sameBytes bytes
+five-words = record { recall = refl; quote = refl; find = refl; upfind = refl; replace = refl }
+
+module _ {yes : Bool} {key : Naming} (name : List ℕ) where
+  -- A name that is a word names what the word names.
+  pub named-as : (word : String) → key ≡ keyNamed (bytes word) → yes ≡ sameBytes name (bytes word) → yes ≡ true → key ≡ keyNamed name
+  named-as word named compared e = named ∙ ap keyNamed (sym (same-equal name (bytes word) (sym compared ∙ e)))
+
+  -- Behind `insert-` stands the number.
+  pub named-insert : {number : Number} → yes ≡ begins (bytes "insert-") name → yes ≡ true
+      → number ≡ numberOf (tailOf 7 name) → key ≡ insertNumbered number → key ≡ keyNamed name
+  unfolding keyNamed
+  named-insert compared e read made = rw (sym compared ∙ e) (made ∙ ap insertNumbered (read ∙ ap numberOf (tail-lent 7 name)))

@@ -1,0 +1,45 @@
+-- Each key has a name, and no two keys have the same. (01, the bench program: keys.)
+use mathlib.Core.Path.{_≡_, refl, sym, ap, _∙_}
+use mathlib.Core.List.{List, [], _∷_, _++_, map}
+use Prim.Native.Nat.{ℕ}
+use lib.ListN.{getD, List·getD-map}
+use Rattle.gap.specs.Sequence.{every, sameBytes, begins, counted}
+use Rattle.gap.specs.Strings.{bytes}
+use Rattle.gap.specs.Nearest.{nearest}
+use Rattle.gap.specs.Decimal.{valueAfter, isNumber, numberOf, digitsIn, decimal}
+use Rattle.bench.specs.Words.{Left, Right, Key, Insert, Function, Recall, Quote, Find, Replace, Named}
+use Rattle.bench.specs.Names.{nameOf, combinations, functionOf, functionNamed, keyNamed}
+use Rattle.bench.proofs.Laws.KeyNames.{five-words}
+
+abbrev pub keyName : Key → List ℕ
+keyName (Insert b) = bytes "insert-" ++ decimal b
+keyName (Function action way place) = nameOf (record { action = action; direction = way; place = place })
+keyName Recall = bytes "recall"
+keyName Quote = bytes "quote"
+keyName (Find Right) = bytes "find"
+keyName (Find Left) = bytes "upfind"
+keyName Replace = bytes "replace"
+
+-- The inserts of all bytes, the 20 function keys, and the five others.
+unfoldable pub allKeys : List Key
+allKeys = map Insert (counted 256 0) ++ (map functionOf combinations ++ (Recall ∷ Quote ∷ Find Right ∷ Find Left ∷ Replace ∷ []))
+
+abbrev pub keyAt : ℕ → Key
+keyAt i = getD allKeys i Recall
+
+-- One test, computed over all of them.
+all-named : map (λ k. keyNamed (keyName k)) allKeys ≡ map Named allKeys
+unfolding every sameBytes begins counted bytes nearest valueAfter isNumber numberOf digitsIn decimal combinations functionNamed keyNamed allKeys
+all-named = refl
+
+-- The name of a key names that key.
+pub each-named : (i : ℕ) → keyNamed (keyName (keyAt i)) ≡ Named (keyAt i)
+each-named i =
+    sym (List·getD-map (λ k. keyNamed (keyName k)) allKeys i Recall)
+    ∙ ap (λ s. getD s i (keyNamed (keyName Recall))) all-named
+    ∙ ap (getD (map Named allKeys) i) (sym (five-words .recall))
+    ∙ List·getD-map Named allKeys i Recall
+
+-- So keys that have the same name are the same key: no name of a function key is that of another, one of the five words, or an insert's.
+pub no-two-alike : (i j : ℕ) → keyName (keyAt i) ≡ keyName (keyAt j) → keyAt i ≡ keyAt j
+no-two-alike i j same = let named = sym (each-named i) ∙ ap keyNamed same ∙ each-named j in cc named

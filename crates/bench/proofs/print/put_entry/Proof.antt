@@ -1,0 +1,44 @@
+-- `print::put_entry` writes an entry: its word, its number and a newline, one behind the other; a number has at most 20 digits.
+use native.Mathlib.Omega.{arith}
+use borrow.Author.Needs.{needs}
+use Rattle.gap.proofs.Laws.Writers.{then}
+use Rattle.gap.proofs.Laws.Decimals.{decimal-short}
+use Rattle.bench.specs.Print.{entry}
+use Rattle.bench.proofs.print.put_entry.Statement.{statement}
+use Rattle.bench.proofs.print.put_entry.Tie as tie
+
+put-requires : tie.Need-put-requires
+put-requires c κs = search needs
+
+put-decimal-requires : tie.Need-put-decimal-requires
+put-decimal-requires c κs = omega (arith, decimal-short (c .before .before .before .before .before .before .before .args .n) (search needs))
+
+slice-aggregate-put : tie.Need-slice-aggregate-put
+slice-aggregate-put c = search needs
+
+put-requires-2 : tie.Need-put-requires-2
+put-requires-2 c κs = omega (arith, decimal-short (c .before .before .before .before .before .before .before .before .before .before .before .before .args .n) (search needs))
+
+same-length : tie.Need-same-length
+same-length c = search needs
+
+returns : tie.Need-returns
+unfolding entry
+returns c =
+    let numbered = c .before .before .before .before .before .before .before in
+    let worded = numbered .before .before .before .before in
+    let start = worded .before .before .before .before in (
+      then (worded .put .ensures) (then (numbered .put-decimal .ensures) (c .before .before .put2 .ensures)),
+      omega (arith, decimal-short (start .args .n) (search needs)),
+    )
+
+pub put-entry-spec : {M : Type 1} → statement M
+put-entry-spec =
+    tie.close
+    (tie.spec
+    put-requires
+    put-decimal-requires
+    slice-aggregate-put
+    put-requires-2
+    same-length
+    returns)

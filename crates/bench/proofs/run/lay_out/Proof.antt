@@ -1,0 +1,44 @@
+-- `lay_out` copies the part that there is room for.
+use mathlib.Core.Path.{_∙_}
+use denote.Ref.{now}
+use Rattle.bench.proofs.Laws.Turning.{part-laid}
+use borrow.Author.Needs.{needs}
+use Rattle.bench.proofs.run.lay_out.Statement.{statement}
+use Rattle.bench.proofs.run.lay_out.Tie as tie
+
+least-requires : tie.Need-least-requires
+least-requires c κs = search needs
+
+add-end : tie.Need-add-end
+add-end c = search needs
+
+sub-copy-at : tie.Need-sub-copy-at
+sub-copy-at c = search needs
+
+part-copy-at-start : tie.Need-part-copy-at-start
+part-copy-at-start c = search needs
+
+part-copy-at-end : tie.Need-part-copy-at-end
+part-copy-at-end c = search needs
+
+copy-at-requires : tie.Need-copy-at-requires
+copy-at-requires c κs = search needs
+
+same-length : tie.Need-same-length
+same-length c = search needs
+
+returns : tie.Need-returns
+returns c = c .before .before .copy-at .ensures ∙ part-laid (c .before .before .before .before .before .before .before .before .args .at) (c .before .before .before .before .before .before .before .before .args .n) _ (now (c .before .before .before .before .before .before .before .before .args .input)) (now (c .before .before .before .before .before .before .before .before .args .text)) (c .before .before .before .before .before .least .ensures) (c .before .before .before .before .before .before .before .before .pre)
+
+pub lay-out-spec : {M : Type 1} → statement M
+lay-out-spec =
+    tie.close
+    (tie.spec
+    least-requires
+    add-end
+    sub-copy-at
+    part-copy-at-start
+    part-copy-at-end
+    copy-at-requires
+    same-length
+    returns)

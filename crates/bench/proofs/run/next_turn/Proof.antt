@@ -1,0 +1,83 @@
+-- `next_turn` does what the line at hand says.
+use mathlib.Core.Path.{sym, _∙_}
+use Rattle.bench.proofs.Laws.Turning.{next-pressed, next-finished, next-unknown, onward-pressed, onward-last}
+use borrow.Author.Needs.{needs}
+use Rattle.bench.proofs.run.next_turn.Statement.{statement}
+use Rattle.bench.proofs.run.next_turn.Tie as tie
+
+reading-at-requires : tie.Need-reading-at-requires
+reading-at-requires c κs = search needs
+
+enum-known-reading : tie.Need-enum-known-reading
+enum-known-reading c = search needs
+
+press-key-requires : tie.Need-press-key-requires
+press-key-requires c κs = search needs
+
+enum-told : tie.Need-enum-told
+enum-told c = search needs
+
+stop-requires : tie.Need-stop-requires
+stop-requires c κs = search needs
+
+enum-told-2 : tie.Need-enum-told-2
+enum-told-2 c = search needs
+
+line-number-requires : tie.Need-line-number-requires
+line-number-requires c κs = search needs
+
+put-script-requires : tie.Need-put-script-requires
+put-script-requires c κs = search needs
+
+stop-requires-2 : tie.Need-stop-requires-2
+stop-requires-2 c κs = search needs
+
+same-length : tie.Need-same-length
+same-length c = search needs
+
+same-length-2 : tie.Need-same-length-2
+same-length-2 c = search needs
+
+same-length-3 : tie.Need-same-length-3
+same-length-3 c = search needs
+
+same-length-4 : tie.Need-same-length-4
+same-length-4 c = search needs
+
+same-length-5 : tie.Need-same-length-5
+same-length-5 c = search needs
+
+returns : tie.Need-returns
+returns c = (next-pressed _ (c .before .before .before .before .before .before .before .before .before .before .before .before .before .before .before .before .before .before .before .before .before .before .before .before .before .before .before .args .t) _ _ _ (sym (c .before .before .before .before .before .before .before .before .before .before .before .before .before .before .before .before .before .reading .given .1) ∙ c .before .before .before .before .before .before .before .before .before .before .before .before .before .before .before .before .before .before .before .reading-at .ensures) _ _ _ _ (c .before .before .before .before .before .before .before .before .before .before .press-key .ensures), onward-pressed _ (c .before .before .before .before .before .before .before .before .before .before .before .before .before .before .before .before .before .before .before .before .before .before .before .before .before .before .before .args .t) _ _ _ (sym (c .before .before .before .before .before .before .before .before .before .before .before .before .before .before .before .before .before .reading .given .1) ∙ c .before .before .before .before .before .before .before .before .before .before .before .before .before .before .before .before .before .before .before .reading-at .ensures) _ _ _ _ (c .before .before .before .before .before .before .before .before .before .before .press-key .ensures))
+
+returns-2 : tie.Need-returns-2
+returns-2 c = (next-finished _ (c .before .before .before .before .before .before .before .before .before .before .before .args .t) _ (sym (c .before .enum-told .given .1) ∙ c .before .before .before .reading-at .ensures) _ (c .stop .ensures) _, onward-last (c .before .before .before .before .before .before .before .before .before .before .before .args .t) 0 _ _ (c .stop .ensures) (c .before .before .before .before .before .before .before .before .before .before .before .pre .0))
+
+same-length-6 : tie.Need-same-length-6
+same-length-6 c = search needs
+
+returns-3 : tie.Need-returns-3
+returns-3 c = (next-unknown _ (c .before .before .before .before .before .before .before .before .before .before .before .before .before .before .before .before .args .t) _ (sym (c .before .before .before .before .before .before .enum-told2 .given .1) ∙ c .before .before .before .before .before .before .before .before .reading-at .ensures) _ _ (c .stop2 .ensures) _ _ _ (c .before .before .before .before .before .line-number .ensures) (c .before .before .before .put-script .ensures), onward-last (c .before .before .before .before .before .before .before .before .before .before .before .before .before .before .before .before .args .t) _ _ _ (c .stop2 .ensures) (c .before .before .before .before .before .before .before .before .before .before .before .before .before .before .before .before .pre .0))
+
+pub next-turn-spec : {M : Type 1} → statement M
+next-turn-spec =
+    tie.close
+    (tie.spec
+    reading-at-requires
+    enum-known-reading
+    press-key-requires
+    enum-told
+    stop-requires
+    enum-told-2
+    line-number-requires
+    put-script-requires
+    stop-requires-2
+    same-length
+    same-length-2
+    same-length-3
+    same-length-4
+    same-length-5
+    returns
+    returns-2
+    same-length-6
+    returns-3)

@@ -1,0 +1,45 @@
+-- `script::field_of` meets its contract: a line that begins with the word is as long, and what stands behind the word is lent.
+use borrow.Author.Needs.{needs}
+use Rattle.gap.specs.Decimal.{numberOf}
+use Rattle.bench.specs.Words.{Unreadable}
+use Rattle.bench.specs.Script.{fieldOf}
+use Rattle.bench.proofs.Laws.Scripts.{word-fits, word-none, word-read}
+use Rattle.bench.proofs.script.field_of.Statement.{statement}
+use Rattle.bench.proofs.script.field_of.Tie as tie
+
+begins-with-requires : tie.Need-begins-with-requires
+begins-with-requires c κs = search needs
+
+returns : tie.Need-returns
+unfolding fieldOf
+returns c = word-none _ _ (c .before .begins-with .ensures) numberOf Unreadable (c .if1 .taken)
+
+sub-number-of : tie.Need-sub-number-of
+sub-number-of c = word-fits _ _ (c .before .begins-with .ensures) (c .if1 .left)
+
+part-number-of-start : tie.Need-part-number-of-start
+part-number-of-start c = word-fits _ _ (c .before .begins-with .ensures) (c .if1 .left)
+
+part-number-of-end : tie.Need-part-number-of-end
+part-number-of-end c = search needs
+
+number-of-requires : tie.Need-number-of-requires
+number-of-requires c κs = search needs
+
+returns-2 : tie.Need-returns-2
+unfolding fieldOf
+returns-2 c =
+    let there = c .before .before in
+    word-read _ _ (there .before .begins-with .ensures) numberOf Unreadable (there .if1 .left) (c .number-of .ensures)
+
+pub field-of-spec : {M : Type 1} → statement M
+field-of-spec =
+    tie.close
+    (tie.spec
+    begins-with-requires
+    returns
+    sub-number-of
+    part-number-of-start
+    part-number-of-end
+    number-of-requires
+    returns-2)

@@ -1,0 +1,26 @@
+-- `script::line_number` meets its contract: the newlines before the line are counted, and there are no more of them than bytes.
+use mathlib.Core.Path.{sym}
+use native.Mathlib.Omega.{arith}
+use lib.Seq.{length-take-le}
+use borrow.Author.Needs.{needs}
+use Rattle.bench.proofs.Laws.ScriptLines.{lines-fit, line-numbered}
+use Rattle.bench.proofs.script.line_number.Statement.{statement}
+use Rattle.bench.proofs.script.line_number.Tie as tie
+
+slice-aggregate-count-newlines : tie.Need-slice-aggregate-count-newlines
+slice-aggregate-count-newlines c = sym (length-take-le _ _ (c .before .before .pre))
+
+count-newlines-requires : tie.Need-count-newlines-requires
+count-newlines-requires c κs = search needs
+
+add-result : tie.Need-add-result
+add-result c =
+    let args = c .before .before .before .args in
+    omega (arith, lines-fit (args .s .now) (args .at) (c .count-newlines .ensures))
+
+returns : tie.Need-returns
+returns c = line-numbered _ _ (c .count-newlines .ensures)
+
+pub line-number-spec : {M : Type 1} → statement M
+line-number-spec =
+    tie.close (tie.spec slice-aggregate-count-newlines count-newlines-requires add-result returns)

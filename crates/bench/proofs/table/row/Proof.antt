@@ -1,0 +1,21 @@
+-- `table::row` meets its contract: the constant table is, by computing, the list of the rows that the rule of names makes.
+use borrow.Author.Needs.{needs}
+use Rattle.gap.specs.Sequence.{zeros}
+use Rattle.gap.specs.Strings.{bytes}
+use Rattle.bench.specs.Names.{combinations}
+use Rattle.bench.proofs.Laws.KeyTable.{row-made}
+use Rattle.bench.proofs.table.row.Statement.{statement}
+use Rattle.bench.proofs.table.row.Tie as tie
+
+mul-result : tie.Need-mul-result
+mul-result c = search needs
+
+array-copy-out-result : tie.Need-array-copy-out-result
+array-copy-out-result c = search needs
+
+returns : tie.Need-returns
+unfolding bytes zeros combinations
+returns c = row-made (c .before .args .i) _ (c .before .pre)
+
+pub row-spec : {M : Type 1} → statement M
+row-spec = tie.close (tie.spec mul-result array-copy-out-result returns)

@@ -1,0 +1,150 @@
+// The bench program: it reads a script, opens its text, presses its keys, and prints what each call answers.
+mod compare;
+mod print;
+mod run;
+mod script;
+mod table;
+
+use crate::print::put_script;
+use crate::run::begin;
+use crate::run::next_turn;
+use crate::run::opening;
+use crate::run::screen_size;
+use editor::Action;
+use editor::Key;
+use editor::Place;
+use gap::Direction;
+use window::Session;
+ghost use mathlib.Core.Path.{_≡_};
+ghost use mathlib.Core.Bool.{true};
+ghost use Prim.Native.Nat.{_+_, _≤_, _<_};
+ghost use lib.ListN.{length};
+
+// What the four header lines say, and where the text stands in the input.
+pub struct Header {
+    pub rows: usize,
+    pub columns: usize,
+    pub store: usize,
+    pub length: usize,
+    pub at: usize,
+}
+
+// The header, or the number that `script=` prints.
+pub enum Heading {
+    Headed(Header),
+    Broken(usize),
+}
+
+// What a name names.
+pub enum Naming {
+    Named(Key),
+    Unnamed,
+}
+
+// What the next line says: a key, with the place of the line behind it; that there is none; or nothing that can be read.
+pub enum Reading {
+    Pressed(Key, usize),
+    Finished,
+    Unknown,
+}
+
+// A row of the key table: a function key, the length of its name, and its name filled up with zeros.
+pub struct Entry {
+    pub action: Action,
+    pub direction: Direction,
+    pub place: Place,
+    pub length: usize,
+    pub name: [u8; 24],
+}
+
+// What a turn leaves: whether the program goes on, the place of the next line, the record, and how many bytes are to be printed.
+pub struct Turn {
+    pub going: bool,
+    pub at: usize,
+    pub session: Session,
+    pub printed: usize,
+}
+
+// The first n bytes are written to standard output.
+fn write_front(out: &[u8], n: usize) -> bool
+    requires { ⌜ n ≤ length (now out) ⌝ }
+{
+    io::write_all(1, &out[..n])
+}
+
+// What a turn prints goes out. The program goes on if the turn says so and its bytes were taken.
+fn send(t: Turn, out: &[u8]) -> bool
+    requires { ⌜ t .printed ≤ length (now out) ⌝ }
+    ensures { λ going. ⌜ (going ≡ true → t .going ≡ true) ⌝ }
+{
+    if !write_front(out, t.printed) {
+        return false;
+    }
+    t.going
+}
+
+// The turns, one after the other, each printed at once.
+fn play(
+    h: Header,
+    input: &[u8],
+    text: &mut [u8],
+    recall: &mut [u8],
+    side: &mut [u8],
+    screen: &mut [u8],
+    out: &mut [u8],
+)
+    requires { ⌜ h .at + h .length < length (now input) ⌝ }
+    requires { ⌜ 17408 ≤ length (now out) ⌝ }
+{
+    let mut turn = opening(h, input, text, recall, side, screen, out);
+    let mut going = send(turn, out);
+    while going {
+        turn = next_turn(turn, input, text, recall, side, screen, out);
+        going = send(turn, out);
+    }
+}
+
+// The stores that the header asks for.
+fn lend(h: Header, input: &[u8])
+    requires { ⌜ h .at + h .length < length (now input) ⌝ }
+    requires { ⌜ h .store ≤ 4096 ⌝ }
+{
+    let mut text = [0u8; 4096];
+    let mut recall = [0u8; 4096];
+    let mut side = [0u8; 1024];
+    let mut screen = [0u8; 16384];
+    let mut out = [0u8; 17408];
+    let store = h.store;
+    let area = screen_size(h.rows, h.columns);
+    play(
+        h,
+        input,
+        &mut text[..store],
+        &mut recall[..store],
+        &mut side,
+        &mut screen[..area],
+        &mut out,
+    );
+}
+
+// A script that cannot be read from its beginning prints one line.
+fn give_up(line: usize) {
+    let mut out = [0u8; 17408];
+    let printed = put_script(line, &mut out);
+    write_front(&out, printed);
+}
+
+fn start(input: &[u8]) {
+    let heading = begin(input);
+    match heading {
+        Heading::Headed(h) => lend(h, input),
+        Heading::Broken(line) => give_up(line),
+    }
+}
+
+// One byte more is read than a script may have, so that one that is too long is known.
+fn main() {
+    let mut input = [0u8; 8193];
+    let n = io::read_full(0, &mut input);
+    start(&input[..n]);
+}

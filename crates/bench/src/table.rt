@@ -1,0 +1,242 @@
+// The key table, and keys by their names.
+use crate::Entry;
+use crate::Naming;
+use crate::compare::begins_with;
+use crate::compare::same_bytes;
+use editor::Action;
+use editor::Key;
+use editor::Place;
+use gap::Direction;
+use gap::Number;
+use gap::decimals::number_of;
+ghost use mathlib.Core.Path.{_≡_};
+ghost use Prim.Native.Nat.{_<_};
+ghost use Rattle.gap.specs.Sequence.{sameBytes};
+ghost use Rattle.bench.specs.Names.{nameOf, combinationAt, functionOf, entryOf, functionNamed, insertNumbered, keyNamed};
+
+// All 20 function keys, by action, direction and place; the two that get KEY are among them.
+const TABLE: [Entry; 20] = [
+    Entry {
+        action: Action::Move,
+        direction: Direction::Left,
+        place: Place::Character,
+        length: 19,
+        name: *b"move-left-character\0\0\0\0\0",
+    },
+    Entry {
+        action: Action::Move,
+        direction: Direction::Left,
+        place: Place::Word,
+        length: 14,
+        name: *b"move-left-word\0\0\0\0\0\0\0\0\0\0",
+    },
+    Entry {
+        action: Action::Move,
+        direction: Direction::Left,
+        place: Place::LineBeginning,
+        length: 20,
+        name: *b"move-left-line-begin\0\0\0\0",
+    },
+    Entry {
+        action: Action::Move,
+        direction: Direction::Left,
+        place: Place::LineEnding,
+        length: 18,
+        name: *b"move-left-line-end\0\0\0\0\0\0",
+    },
+    Entry {
+        action: Action::Move,
+        direction: Direction::Left,
+        place: Place::Document,
+        length: 18,
+        name: *b"move-left-document\0\0\0\0\0\0",
+    },
+    Entry {
+        action: Action::Move,
+        direction: Direction::Right,
+        place: Place::Character,
+        length: 20,
+        name: *b"move-right-character\0\0\0\0",
+    },
+    Entry {
+        action: Action::Move,
+        direction: Direction::Right,
+        place: Place::Word,
+        length: 15,
+        name: *b"move-right-word\0\0\0\0\0\0\0\0\0",
+    },
+    Entry {
+        action: Action::Move,
+        direction: Direction::Right,
+        place: Place::LineBeginning,
+        length: 21,
+        name: *b"move-right-line-begin\0\0\0",
+    },
+    Entry {
+        action: Action::Move,
+        direction: Direction::Right,
+        place: Place::LineEnding,
+        length: 19,
+        name: *b"move-right-line-end\0\0\0\0\0",
+    },
+    Entry {
+        action: Action::Move,
+        direction: Direction::Right,
+        place: Place::Document,
+        length: 19,
+        name: *b"move-right-document\0\0\0\0\0",
+    },
+    Entry {
+        action: Action::Delete,
+        direction: Direction::Left,
+        place: Place::Character,
+        length: 21,
+        name: *b"delete-left-character\0\0\0",
+    },
+    Entry {
+        action: Action::Delete,
+        direction: Direction::Left,
+        place: Place::Word,
+        length: 16,
+        name: *b"delete-left-word\0\0\0\0\0\0\0\0",
+    },
+    Entry {
+        action: Action::Delete,
+        direction: Direction::Left,
+        place: Place::LineBeginning,
+        length: 22,
+        name: *b"delete-left-line-begin\0\0",
+    },
+    Entry {
+        action: Action::Delete,
+        direction: Direction::Left,
+        place: Place::LineEnding,
+        length: 20,
+        name: *b"delete-left-line-end\0\0\0\0",
+    },
+    Entry {
+        action: Action::Delete,
+        direction: Direction::Left,
+        place: Place::Document,
+        length: 20,
+        name: *b"delete-left-document\0\0\0\0",
+    },
+    Entry {
+        action: Action::Delete,
+        direction: Direction::Right,
+        place: Place::Character,
+        length: 22,
+        name: *b"delete-right-character\0\0",
+    },
+    Entry {
+        action: Action::Delete,
+        direction: Direction::Right,
+        place: Place::Word,
+        length: 17,
+        name: *b"delete-right-word\0\0\0\0\0\0\0",
+    },
+    Entry {
+        action: Action::Delete,
+        direction: Direction::Right,
+        place: Place::LineBeginning,
+        length: 23,
+        name: *b"delete-right-line-begin\0",
+    },
+    Entry {
+        action: Action::Delete,
+        direction: Direction::Right,
+        place: Place::LineEnding,
+        length: 21,
+        name: *b"delete-right-line-end\0\0\0",
+    },
+    Entry {
+        action: Action::Delete,
+        direction: Direction::Right,
+        place: Place::Document,
+        length: 21,
+        name: *b"delete-right-document\0\0\0",
+    },
+];
+
+// Row i of the table.
+fn row(i: usize) -> Entry
+    requires { ⌜ i < 20 ⌝ }
+    ensures { λ e. ⌜ e ≡ entryOf (combinationAt i) ⌝ }
+{
+    TABLE[i]
+}
+
+// The function key of row i.
+fn function_at(i: usize) -> Key
+    requires { ⌜ i < 20 ⌝ }
+    ensures { λ k. ⌜ k ≡ functionOf (combinationAt i) ⌝ }
+{
+    let entry = row(i);
+    let action = entry.action;
+    let direction = entry.direction;
+    let place = entry.place;
+    Key::Function(action, direction, place)
+}
+
+// Row i has this name.
+fn is_named(name: &[u8], i: usize) -> bool
+    requires { ⌜ i < 20 ⌝ }
+    ensures { λ yes. ⌜ yes ≡ sameBytes (now (name .entry)) (nameOf (combinationAt i)) ⌝ }
+{
+    let entry = row(i);
+    let length = entry.length;
+    let filled = entry.name;
+    same_bytes(name, &filled[..length])
+}
+
+// The function key of this name.
+fn function_named(name: &[u8]) -> Naming
+    ensures { λ k. ⌜ k ≡ functionNamed (now (name .entry)) ⌝ }
+{
+    let mut i = 0;
+    while i < 20 {
+        if is_named(name, i) {
+            return Naming::Named(function_at(i));
+        }
+        i += 1;
+    }
+    Naming::Unnamed
+}
+
+// The insert of this number.
+fn insert_numbered(n: Number) -> Naming
+    ensures { λ k. ⌜ k ≡ insertNumbered n ⌝ }
+{
+    let Number::Read(value) = n else {
+        return Naming::Unnamed;
+    };
+    if 255 < value {
+        return Naming::Unnamed;
+    }
+    Naming::Named(Key::Insert(value as u8))
+}
+
+// The key of this name.
+pub fn key_named(name: &[u8]) -> Naming
+    ensures { λ k. ⌜ k ≡ keyNamed (now (name .entry)) ⌝ }
+{
+    if begins_with(b"insert-", name) {
+        return insert_numbered(number_of(&name[7..]));
+    }
+    if same_bytes(name, b"recall") {
+        return Naming::Named(Key::Recall);
+    }
+    if same_bytes(name, b"quote") {
+        return Naming::Named(Key::Quote);
+    }
+    if same_bytes(name, b"find") {
+        return Naming::Named(Key::Find(Direction::Right));
+    }
+    if same_bytes(name, b"upfind") {
+        return Naming::Named(Key::Find(Direction::Left));
+    }
+    if same_bytes(name, b"replace") {
+        return Naming::Named(Key::Replace);
+    }
+    function_named(name)
+}
