@@ -5,3 +5,4 @@ pub mod Plain
 pub mod Keys
 pub mod Bytes
 pub mod Promise
+pub mod Searches

@@ -2,9 +2,9 @@
 -- in the direction.
 use mathlib.Core.Path.{_≡_, refl, sym, ap, ap₂, _∙_}
 use mathlib.Core.Logic.{⊎-elim}
-use mathlib.Core.Bool.{Bool, true, false, not, _&&_, cond, or-false}
+use mathlib.Core.Bool.{Bool, true, false, not, _&&_, or-false}
 use mathlib.Core.List.{List, [], _∷_, _++_}
-use Prim.Native.Nat.{ℕ, zero, suc, _+_, _-_, _≤_, _<_}
+use Prim.Native.Nat.{ℕ, suc, _+_, _-_, _≤_, _<_}
 use native.Mathlib.Omega.{arith}
 use lib.Dec.{leb, ltb}
 use lib.ListN.{length, take, drop, getD, length-append, length-drop, drop-of-length-le}
@@ -18,10 +18,11 @@ use Rattle.gap.specs.Layout.{ungap}
 use Rattle.gap.proofs.Laws.Tests.{decided, or-right, cond-true, cond-false}
 use Rattle.gap.proofs.Laws.Doc.{back-append, moves-left, moves-right, room-moves}
 use Rattle.gap.proofs.Theorems.Distance.{distance-least, distance-nowhere}
-use Rattle.editor.specs.Words.{Direction, Left, Right, Search, Reached}
+use Rattle.editor.specs.Words.{Direction, Left, Right, Search}
 use Rattle.editor.specs.Words.{Place, Character, Word, LineBeginning, LineEnding, Document}
 use Rattle.editor.specs.Places.{isNewline, blank, emptyOr, isEmpty, lineBeginning, lineEnding, word, documentEnd, isAt}
 use Rattle.editor.specs.Promise.{wholeOf}
+use Rattle.editor.proofs.Laws.RowScans.{nearest-same}
 
 -- The cursor at place p of a text.
 abbrev pub cutAt : ℕ → List ℕ → Doc
@@ -111,14 +112,6 @@ test-known d p q e = e ∙ sym (ap₂ (λ place way. isAt place way d) p q)
 pub distance-known : {place kind : Place} {way known : Direction} {s : Search} (d : Doc) → place ≡ kind → way ≡ known
     → s ≡ distance known (isAt kind known) d → s ≡ distance way (isAt place way) d
 distance-known d p q e = e ∙ sym (ap₂ (λ place way. distance way (isAt place way) d) p q)
-
--- Tests that agree on the numbers looked at find the same number.
-nearest-same : {f g : ℕ → Bool} (n k : ℕ) → ((j : ℕ) → k ≤ j → j < k + n → f j ≡ g j) → nearest f n k ≡ nearest g n k
-unfolding nearest
-nearest-same zero k same = refl
-nearest-same (suc n) k same =
-    ap₂ (λ passes further. cond passes (Reached k) further) (same k (omega arith) (omega arith))
-    (nearest-same n (suc k) (λ j low high. same j (omega arith) (omega arith)))
 
 -- A place test sees no more than the byte on either side.
 same-right : (place : Place) (x s y : List ℕ) (b : ℕ) → isAt place Left (record { l = x; r = b ∷ s })

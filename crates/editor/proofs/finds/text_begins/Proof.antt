@@ -1,77 +1,63 @@
--- `editor::finds::text_begins` meets its contract: as `run_begins`, with the bytes read over the gap.
-use Prim.Native.Nat.{_-_}
-use lib.ListN.{length}
+-- `editor::finds::text_begins` meets its contract: what follows the place is one run of the store or two.
+use mathlib.Core.Path.{ap, _∙_}
 use borrow.Author.Needs.{needs}
-use Rattle.gap.specs.Doc.{content}
-use Rattle.gap.specs.Layout.{ungap}
-use Rattle.editor.proofs.Laws.MatchScans.{Agrees, agrees-short, agrees-start, agrees-differs, agrees-more, agrees-all}
-use Rattle.editor.proofs.Laws.MatchScans.{length-text}
+use Rattle.gap.specs.Sequence.{begins}
+use Rattle.editor.proofs.Laws.MatchTests.{text-right, text-across}
 use Rattle.editor.proofs.finds.text_begins.Statement.{statement}
 use Rattle.editor.proofs.finds.text_begins.Tie as tie
 
-abbrev Inv-loop : tie.InvT-loop
-Inv-loop s l r at pattern m j₀ j = Agrees pattern (content (ungap l r s)) at j
+sub-back : tie.Need-sub-back
+sub-back c = search needs
 
-abbrev μ-loop : tie.MeasureT-loop
-μ-loop s l r at pattern m j₀ j = length pattern - j
+add-run-begins : tie.Need-add-run-begins
+add-run-begins c = search needs
 
-add-if1 : tie.Need-add-if1 Inv-loop μ-loop
-add-if1 c = search needs
+run-begins-requires : tie.Need-run-begins-requires
+run-begins-requires c κs = search needs
 
-sub-if1 : tie.Need-sub-if1 Inv-loop μ-loop
-sub-if1 c = search needs
+returns : tie.Need-returns
+returns c =
+    c .run-begins .ensures ∙ ap (begins _) (text-right _ _ _ (c .before .before .before .before .pre .0) _ (c .before .if1 .taken))
 
-returns : tie.Need-returns Inv-loop μ-loop
-returns c = agrees-short _ _ _ _ (length-text _ _ _ (c .before .before .before .pre .0)) (c .if1 .taken)
+sub-runs-begin : tie.Need-sub-runs-begin
+sub-runs-begin c = search needs
 
-loop-holds : tie.Need-loop-holds Inv-loop μ-loop
-loop-holds c =
-    let pre = c .before .before .before .pre in
-    agrees-start _ _ _ _ (length-text _ _ _ (pre .0)) (pre .1) (c .if1 .left)
+part-runs-begin-start : tie.Need-part-runs-begin-start
+part-runs-begin-start c = search needs
 
-add-i : tie.Need-add-i Inv-loop μ-loop
-add-i c = search needs
+part-runs-begin-end : tie.Need-part-runs-begin-end
+part-runs-begin-end c = search needs
 
-byte-at-requires : tie.Need-byte-at-requires Inv-loop μ-loop
-byte-at-requires c κs = search needs
+sub-runs-begin-2 : tie.Need-sub-runs-begin-2
+sub-runs-begin-2 c = search needs
 
-shared-slice-read-if2 : tie.Need-shared-slice-read-if2 Inv-loop μ-loop
-shared-slice-read-if2 c = search needs
+part-runs-begin-start-2 : tie.Need-part-runs-begin-start-2
+part-runs-begin-start-2 c = search needs
 
-returns-2 : tie.Need-returns-2 Inv-loop μ-loop
+part-runs-begin-end-2 : tie.Need-part-runs-begin-end-2
+part-runs-begin-end-2 c = search needs
+
+runs-begin-requires : tie.Need-runs-begin-requires
+runs-begin-requires c κs = search needs
+
+returns-2 : tie.Need-returns-2
 returns-2 c =
-    let turn = c .before .before in
-    agrees-differs (turn .before .before .loop .inv) (turn .before .loop-test .taken) (turn .byte-at .ensures) (c .if2 .taken)
-
-add-j : tie.Need-add-j Inv-loop μ-loop
-add-j c = search needs
-
-loop-less : tie.Need-loop-less Inv-loop μ-loop
-loop-less c = search needs
-
-loop-again : tie.Need-loop-again Inv-loop μ-loop
-loop-again c =
-    let turn = c .before .before in
-    agrees-more (turn .before .before .loop .inv) (turn .before .loop-test .taken) (turn .byte-at .ensures) (c .if2 .left)
-
-returns-3 : tie.Need-returns-3 Inv-loop μ-loop
-returns-3 c = agrees-all (c .before .loop .inv) (c .loop-test .left)
+    let before = c .before .before .before in
+    c .runs-begin .ensures ∙ ap (begins _) (text-across _ _ _ (before .before .before .before .pre .0) _ (before .if1 .left))
 
 pub text-begins-spec : {M : Type 1} → statement M
 text-begins-spec =
     tie.close
     (tie.spec
-    Inv-loop
-    μ-loop
-    add-if1
-    sub-if1
+    sub-back
+    add-run-begins
+    run-begins-requires
     returns
-    loop-holds
-    add-i
-    byte-at-requires
-    shared-slice-read-if2
-    returns-2
-    add-j
-    loop-less
-    loop-again
-    returns-3)
+    sub-runs-begin
+    part-runs-begin-start
+    part-runs-begin-end
+    sub-runs-begin-2
+    part-runs-begin-start-2
+    part-runs-begin-end-2
+    runs-begin-requires
+    returns-2)
