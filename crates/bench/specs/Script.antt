@@ -1,6 +1,6 @@
 -- How a script is read: four header lines, the text, and lines of keys. (01, the bench program.)
-use Rattle.bench.specs.Words.{List, [], _∷_, Bool, _&&_, cond, ℕ, suc, _+_, eqb, ltb, length, take, drop, getD, String}
-use Rattle.bench.specs.Words.{Number, Read, Unreadable, Header, Heading, Headed, Broken, Naming, Named, Unnamed}
+use Rattle.bench.specs.Words.{List, [], _∷_, Bool, _&&_, cond, ℕ, suc, _+_, eqb, ltb, length, take, drop, getD}
+use Rattle.bench.specs.Words.{Number, Read, Unreadable, Heading, Headed, Broken, Naming, Named, Unnamed}
 use Rattle.bench.specs.Words.{Reading, Pressed, Finished, Unknown}
 use Rattle.gap.specs.Sequence.{begins}
 use Rattle.gap.specs.Strings.{bytes}

@@ -11,6 +11,7 @@ use crate::script::line_number;
 use crate::script::reading_at;
 use editor::Key;
 use gap::runs::copy_at;
+use gap::runs::smaller;
 use window::Answer;
 use window::Session;
 use window::calls::open;
@@ -18,7 +19,7 @@ use window::calls::press;
 use window::calls::rows_and_columns;
 ghost use mathlib.Core.Path.{_≡_};
 ghost use mathlib.Core.Bool.{false};
-ghost use Prim.Native.Nat.{_+_, _≤_, _<_, min};
+ghost use Prim.Native.Nat.{_+_, _≤_, _<_};
 ghost use lib.ListN.{length, take};
 ghost use Rattle.gap.specs.Sequence.{part, patch};
 ghost use Rattle.gap.specs.Written.{Wrote};
@@ -68,21 +69,12 @@ pub fn screen_size(h: usize, w: usize) -> usize
     h * w
 }
 
-fn least(a: usize, b: usize) -> usize
-    ensures { λ m. ⌜ m ≡ min a b ⌝ }
-{
-    if a < b {
-        return a;
-    }
-    b
-}
-
 // The n bytes of the input from `at` on go to the front of the text store, as many as it has room for.
 fn lay_out(input: &[u8], at: usize, n: usize, text: &mut [u8])
     requires { ⌜ at + n ≤ length (now input) ⌝ }
     ensures { λ _. ⌜ now (text .exit) ≡ patch 0 (take (length (now (text .entry))) (part at n (now (input .entry)))) (now (text .entry)) ⌝ }
 {
-    let size = least(n, text.len());
+    let size = smaller(n, text.len());
     let end = at + size;
     copy_at(text, 0, &input[at..end]);
 }

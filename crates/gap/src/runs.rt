@@ -76,20 +76,13 @@ pub fn take_out(s: &mut [u8], at: usize, d: usize, pair: &mut [u8])
 }
 
 // The smaller of two numbers.
-fn smaller(a: usize, b: usize) -> usize
+pub fn smaller(a: usize, b: usize) -> usize
     ensures { λ r. ⌜ r ≡ min a b ⌝ }
 {
     if a < b {
         return a;
     }
     b
-}
-
-// How many of n bytes go in the next block.
-pub fn block_of(n: usize) -> usize
-    ensures { λ size. ⌜ (size ≤ n) × (size ≤ 256) × (0 < n → 0 < size) ⌝ }
-{
-    smaller(n, 256)
 }
 
 // A block of at most 256 bytes is copied from one place to another. It is copied out before it is stored, so that the two places may
@@ -124,7 +117,7 @@ fn slide(s: &mut [u8], from: usize, to: usize, d: usize)
 {
     let mut left = d;
     while 0 < left {
-        let size = block_of(left);
+        let size = smaller(left, 256);
         let at = block_at(from, to, d, left, size);
         carry(s, from + at, to + at, size);
         left -= size;

@@ -8,9 +8,9 @@ use crate::runs::vacate;
 ghost use mathlib.Core.Path.{_≡_};
 ghost use mathlib.Core.List.{[], _∷_};
 ghost use Prim.Native.Nat.{_+_, _≤_, _<_};
-ghost use lib.ListN.{length, take, getD};
+ghost use lib.ListN.{length, take};
 ghost use Rattle.gap.specs.declared.Direction.the-variants.{Left, Right};
-ghost use Rattle.gap.specs.Doc.{content, empty, move, delete, times, removed, splice};
+ghost use Rattle.gap.specs.Doc.{empty, move, delete, times, removed, splice};
 ghost use Rattle.gap.specs.Layout.{gapped, paired, ungap, unpair, IsGap};
 
 // The cursor goes d bytes left: they cross the gap.
@@ -102,16 +102,4 @@ pub fn open_text(s: &mut [u8], n: usize)
 {
     clear_from(s, n);
     move_left(s, n, 0, n);
-}
-
-// Byte i of the text, counted from 0 over the gap.
-pub fn byte_at(s: &[u8], l: usize, r: usize, i: usize) -> u8
-    requires { ⌜ (l + r ≤ length (now s)) × (i < l + r) ⌝ }
-    ensures { λ b. ⌜ b ≡ getD (content (ungap l r (now (s .entry)))) i 0 ⌝ }
-{
-    if i < l {
-        return s[i];
-    }
-    let at = s.len() - r + (i - l);
-    s[at]
 }

@@ -23,11 +23,11 @@ use Rattle.window.specs.Calls.{lent, called}
 use Rattle.window.proofs.Laws.Views.{tabled-facts}
 use Rattle.window.proofs.Laws.KeyCall.{product-small}
 use Rattle.window.proofs.Theorems.Refusals.{opening-accepted, key-accepted}
-use Rattle.bench.specs.Words.{Header, Heading, Headed, Broken, Reading, Pressed, Finished, Unknown}
+use Rattle.bench.specs.Words.{Header, Heading, Headed, Broken, Pressed, Finished, Unknown}
 use Rattle.bench.specs.declared.Turn.{Turn}
 use Rattle.bench.specs.Script.{lineNumber, headingOf, readingAt}
 use Rattle.bench.specs.Print.{answerOf, acceptedBlock, refusedBlock, block, scriptLine, Printable}
-use Rattle.bench.specs.Run.{unlessLarge, beginning, screenSize, laidOut, State, Turned, openingTurn, pressedTurn, read, nextTurn}
+use Rattle.bench.specs.Run.{unlessLarge, beginning, screenSize, laidOut, Turned, openingTurn, pressedTurn, read, nextTurn}
 use Rattle.bench.proofs.Laws.Scripts.{pressed-goes-on, headed-inside}
 use Rattle.bench.specs.Turns.{stateOf, Does, Onward}
 

@@ -1,38 +1,21 @@
--- Laws of a gap store and its cursor: reading a byte over the gap, and moves, which carry bytes from one side of the gap to the other.
+-- Laws of a gap store and its cursor: moves carry bytes from one side of the gap to the other.
 use mathlib.Core.Path.{_≡_, refl, sym, ap, _∙_}
 use mathlib.Core.List.{List, [], _++_, append-nil}
-use Prim.Native.Nat.{ℕ, _+_, _-_, _≤_, _<_}
+use Prim.Native.Nat.{ℕ, _+_, _-_, _≤_}
 use native.Mathlib.Nat.{add-zero}
 use native.Mathlib.Omega.{arith}
-use lib.ListN.{length, take, drop, getD, length-drop, take-append-drop, List·getD-append}
-use lib.Seq.{length-take-le, getD-take, getD-drop, getD-append-add}
+use lib.ListN.{length, take, drop, length-drop, take-append-drop}
+use lib.Seq.{length-take-le}
 use Rattle.gap.specs.declared.Direction.{Direction}
 use Rattle.gap.specs.declared.Direction.the-variants.{Left, Right}
 use Rattle.gap.specs.Sequence.{zeros}
-use Rattle.gap.specs.Doc.{Doc, content, room, move, times}
+use Rattle.gap.specs.Doc.{Doc, room, move, times}
 use Rattle.gap.specs.Layout.{gapped, ungap, IsGap}
 use Rattle.gap.proofs.Laws.Doc.{moves-left, moves-right}
 use Rattle.gap.proofs.Laws.Layout.{length-gapped, ungap-gapped}
 use Rattle.gap.proofs.Laws.Shifts.{carried}
 use Rattle.gap.proofs.Laws.Stores.{Filled, fill-left, fill-right, taken, vacated, placed, side}
 use Rattle.gap.proofs.Laws.Stores.{length-left, length-right, sizes, enough}
-
--- Byte i of the text that a store holds: left of the cursor it is byte i of the store, right of it the gap is passed over.
-module _ (l r : ℕ) (s : List ℕ) (i : ℕ) (fits : l + r ≤ length s) where
-  size : length (take l s) ≡ l
-  size = length-take-le l s (omega arith)
-
-  pub byte-left : i < l → getD s i 0 ≡ getD (content (ungap l r s)) i 0
-  unfolding ungap
-  byte-left h =
-      let inside : i < length (take l s) = rw size h in
-      rw (List·getD-append, getD-take)
-
-  pub byte-right : l ≤ i → getD s (length s - r + (i - l)) 0 ≡ getD (content (ungap l r s)) i 0
-  unfolding ungap
-  byte-right h =
-      let e : length (take l s) + (i - l) ≡ i = rw size (omega arith) in
-      rw (← getD-drop, ← getD-append-add (take l s), e)
 
 -- The run v of k bytes left of the cursor, at `front`, or right of it, at `back`: without it both stores are the same. So the two
 -- places may overlap or be the same.

@@ -6,8 +6,8 @@ use borrow.Author.Needs.{needs}
 use Rattle.bench.proofs.run.lay_out.Statement.{statement}
 use Rattle.bench.proofs.run.lay_out.Tie as tie
 
-least-requires : tie.Need-least-requires
-least-requires c κs = search needs
+smaller-requires : tie.Need-smaller-requires
+smaller-requires c κs = search needs
 
 add-end : tie.Need-add-end
 add-end c = search needs
@@ -28,13 +28,13 @@ same-length : tie.Need-same-length
 same-length c = search needs
 
 returns : tie.Need-returns
-returns c = c .before .before .copy-at .ensures ∙ part-laid (c .before .before .before .before .before .before .before .before .args .at) (c .before .before .before .before .before .before .before .before .args .n) _ (now (c .before .before .before .before .before .before .before .before .args .input)) (now (c .before .before .before .before .before .before .before .before .args .text)) (c .before .before .before .before .before .least .ensures) (c .before .before .before .before .before .before .before .before .pre)
+returns c = c .before .before .copy-at .ensures ∙ part-laid (c .before .before .before .before .before .before .before .before .args .at) (c .before .before .before .before .before .before .before .before .args .n) _ (now (c .before .before .before .before .before .before .before .before .args .input)) (now (c .before .before .before .before .before .before .before .before .args .text)) (c .before .before .before .before .before .smaller .ensures) (c .before .before .before .before .before .before .before .before .pre)
 
 pub lay-out-spec : {M : Type 1} → statement M
 lay-out-spec =
     tie.close
     (tie.spec
-    least-requires
+    smaller-requires
     add-end
     sub-copy-at
     part-copy-at-start

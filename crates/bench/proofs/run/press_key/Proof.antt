@@ -1,5 +1,4 @@
 -- `press_key` is the key call and its block.
-use mathlib.Core.Path.{_∙_}
 use Rattle.bench.proofs.Laws.Turning.{keyed-printable, press-does}
 use borrow.Author.Needs.{needs}
 use Rattle.bench.proofs.run.press_key.Statement.{statement}

@@ -14,8 +14,8 @@ abbrev μ-loop : tie.MeasureT-loop
 loop-holds : tie.Need-loop-holds Inv-loop μ-loop
 loop-holds c = sliding-none _ _ _ _ (c .before .pre .0) (c .before .pre .1)
 
-block-of-requires : tie.Need-block-of-requires Inv-loop μ-loop
-block-of-requires c κs = search needs
+smaller-requires : tie.Need-smaller-requires Inv-loop μ-loop
+smaller-requires c κs = search needs
 
 block-at-requires : tie.Need-block-at-requires Inv-loop μ-loop
 block-at-requires c κs = search needs
@@ -35,13 +35,13 @@ sub-left c = search needs
 loop-less : tie.Need-loop-less Inv-loop μ-loop
 loop-less c =
     let turn = c .before .before .before .before .before in
-    omega (arith, turn .block-of .ensures .2 (turn .before .loop-test .taken))
+    omega (arith, turn .smaller .ensures, turn .before .loop-test .taken)
 
 loop-again : tie.Need-loop-again Inv-loop μ-loop
 loop-again c =
     let placed = c .before .before .before .before in
     let (within, last, front) = placed .block-at .ensures in
-    sliding-more (placed .before .before .before .loop .inv) (placed .before .block-of .ensures .0) last front
+    sliding-more (placed .before .before .before .loop .inv) (omega (arith, placed .before .smaller .ensures)) last front
     (c .before .before .carry .kept .0) (c .before .before .carry .ensures)
 
 same-length : tie.Need-same-length Inv-loop μ-loop
@@ -57,7 +57,7 @@ slide-spec =
     Inv-loop
     μ-loop
     loop-holds
-    block-of-requires
+    smaller-requires
     block-at-requires
     add-carry
     add-carry-2

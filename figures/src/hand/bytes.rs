@@ -1,0 +1,56 @@
+//! Passes over runs of bytes. Those over whole stores have neither branch nor exit within a block, so that they are vectorised.
+
+/// How many bytes a search looks at before it may stop: two vectors.
+const BLOCK: usize = 32;
+
+/// So few bytes that their newlines are counted in a byte, and whole blocks, so that no byte is counted by itself.
+const COUNTED: usize = 192;
+
+pub fn allowed(b: u8) -> bool {
+    (b == b'\n') | (32..=126).contains(&b)
+}
+
+pub fn all_allowed(s: &[u8]) -> bool {
+    s.iter().fold(true, |ok, &b| ok & allowed(b))
+}
+
+pub fn all_free(s: &[u8]) -> bool {
+    s.iter().fold(0, |or, &b| or | b) == 0
+}
+
+pub fn newlines(s: &[u8]) -> usize {
+    s.chunks(COUNTED).map(|block| usize::from(block.iter().map(|&b| u8::from(b == b'\n')).sum::<u8>())).sum()
+}
+
+fn has_newline(block: &[u8; BLOCK]) -> bool {
+    block.iter().fold(false, |any, &b| any | (b == b'\n'))
+}
+
+pub fn first_newline(s: &[u8]) -> Option<usize> {
+    let blocks = s.as_chunks().0;
+    let start = blocks.iter().position(has_newline).unwrap_or(blocks.len()) * BLOCK;
+    Some(start + s[start..].iter().position(|&b| b == b'\n')?)
+}
+
+pub fn last_newline(s: &[u8]) -> Option<usize> {
+    let blocks = s.as_rchunks().1;
+    let behind = blocks.iter().rev().position(has_newline).unwrap_or(blocks.len()) * BLOCK;
+    s[..s.len() - behind].iter().rposition(|&b| b == b'\n')
+}
+
+/// The places where the pattern stands. A block without a place that has both its first and its last byte is ruled out as a whole.
+pub fn matches<'a>(s: &'a [u8], pattern: &'a [u8]) -> impl DoubleEndedIterator<Item = usize> + 'a {
+    let m = pattern.len();
+    let places = (s.len() + 1).saturating_sub(m);
+    let (head, tail) = (pattern[0], pattern[m - 1]);
+    let heads = s[..places].as_chunks::<BLOCK>().0;
+    let tails = s[s.len() - places..].as_chunks::<BLOCK>().0;
+    let likely = move |heads: &[u8; BLOCK], tails: &[u8; BLOCK]| {
+        heads.iter().zip(tails).fold(false, |any, (&h, &t)| any | ((h == head) & (t == tail)))
+    };
+    let blocks = heads.iter().zip(tails).enumerate().filter(move |&(_, (heads, tails))| likely(heads, tails));
+    blocks
+        .flat_map(|(i, _)| i * BLOCK..(i + 1) * BLOCK)
+        .chain(heads.len() * BLOCK..places)
+        .filter(move |&at| s[at] == head && s[at..at + m] == *pattern)
+}

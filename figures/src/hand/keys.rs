@@ -1,0 +1,192 @@
+//! Keys on the document and the quotation, without a screen.
+
+use super::bytes::allowed;
+use super::places::{distance_left, distance_right, find_left, find_right, Direction, Place};
+use super::texts::Side;
+use crate::numbers::{self, Record};
+
+pub const QUARTER: usize = 256;
+
+#[derive(Clone, Copy)]
+pub enum Action {
+    Move,
+    Delete,
+}
+
+/// The keys that act on one side, the document's or the quotation's.
+pub enum Edit {
+    Insert(u8),
+    Function(Action, Direction, Place),
+    Recall,
+}
+
+pub enum Key {
+    Edit(Edit),
+    Quote,
+    Find(Direction),
+    Replace,
+}
+
+/// What an accepted key reports.
+#[derive(Default)]
+pub struct Went {
+    pub steps: usize,
+    pub bell: bool,
+}
+
+/// What a key reports that found no place or match.
+const RANG: Went = Went { steps: 0, bell: true };
+
+/// The finished text would not fit its store.
+pub struct Full;
+
+fn direction(number: usize) -> Option<Direction> {
+    [Direction::Left, Direction::Right].get(number).copied()
+}
+
+/// The key that the numbers name, unless it is refused with KEY.
+pub fn sound_key(numbers::Key(kind, a, b, c): numbers::Key) -> Option<Key> {
+    use Place::{Character, Document, LineBeginning, LineEnding, Word};
+    match kind {
+        0 => u8::try_from(a).ok().filter(|&b| allowed(b)).map(|b| Key::Edit(Edit::Insert(b))),
+        1 => {
+            let action = *[Action::Move, Action::Delete].get(a)?;
+            let place = *[Character, Word, LineBeginning, LineEnding, Document].get(c)?;
+            match (action, direction(b)?, place) {
+                (Action::Delete, Direction::Left, LineEnding) | (Action::Delete, Direction::Right, LineBeginning) => None,
+                (action, way, place) => Some(Key::Edit(Edit::Function(action, way, place))),
+            }
+        }
+        2 => Some(Key::Edit(Edit::Recall)),
+        3 => Some(Key::Quote),
+        4 => direction(a).map(Key::Find),
+        5 => Some(Key::Replace),
+        _ => None,
+    }
+}
+
+/// Presses a key on a session. With FULL nothing has changed.
+pub fn press(record: &mut Record, key: Key, text: &mut [u8], recall: &mut [u8], side: &mut [u8]) -> Result<Went, Full> {
+    match key {
+        Key::Quote => {
+            side[..2 * QUARTER].fill(0);
+            (record.ql, record.qr, record.qrl, record.qrr) = (0, 0, 0, 0);
+            record.mode = 1 - record.mode;
+            Ok(Went::default())
+        }
+        Key::Find(way) => {
+            if record.mode == 1 {
+                record.pl = record.ql + record.qr;
+                hand_over(record, 2 * QUARTER, side);
+            }
+            let pattern = &side[2 * QUARTER..][..record.pl];
+            Ok(on_document(record, text, recall, |document| search(document, way, pattern)))
+        }
+        Key::Replace => replace(record, text, recall, side),
+        Key::Edit(edit) if record.mode == 1 => {
+            let (text, recall) = side[..2 * QUARTER].split_at_mut(QUARTER);
+            let Record { ql: l, qr: r, qrl: rl, qrr: rr, .. } = *record;
+            let mut quotation = Side { text, recall, l, r, rl, rr };
+            let went = on_side(&mut quotation, edit)?;
+            (record.ql, record.qr, record.qrl, record.qrr) = (quotation.l, quotation.r, quotation.rl, quotation.rr);
+            Ok(went)
+        }
+        Key::Edit(edit) => on_document(record, text, recall, |document| on_side(document, edit)),
+    }
+}
+
+/// Does something to the document and keeps its lengths.
+fn on_document<R>(record: &mut Record, text: &mut [u8], recall: &mut [u8], change: impl FnOnce(&mut Side) -> R) -> R {
+    let Record { l, r, rl, rr, .. } = *record;
+    let mut document = Side { text, recall, l, r, rl, rr };
+    let result = change(&mut document);
+    (record.l, record.r, record.rl, record.rr) = (document.l, document.r, document.rl, document.rr);
+    result
+}
+
+fn on_side(side: &mut Side, edit: Edit) -> Result<Went, Full> {
+    match edit {
+        Edit::Insert(b) => {
+            if side.room() == 0 {
+                return Err(Full);
+            }
+            side.insert(b);
+            Ok(Went::default())
+        }
+        Edit::Function(action, way, place) => Ok(function(side, action, way, place)),
+        Edit::Recall => {
+            if side.room() < side.rl + side.rr {
+                return Err(Full);
+            }
+            side.place_recall();
+            Ok(Went::default())
+        }
+    }
+}
+
+fn function(side: &mut Side, action: Action, way: Direction, place: Place) -> Went {
+    let distance = match way {
+        Direction::Left => distance_left(place, side.left()),
+        Direction::Right => distance_right(place, side.right()),
+    };
+    let Some(d) = distance else {
+        if let Action::Delete = action {
+            side.forget(0);
+        }
+        return RANG;
+    };
+    match (action, way) {
+        (Action::Move, Direction::Left) => side.move_left(d),
+        (Action::Move, Direction::Right) => side.move_right(d),
+        (Action::Delete, Direction::Left) => side.delete_left(d),
+        (Action::Delete, Direction::Right) => side.delete_right(d),
+    }
+    Went { steps: d, bell: false }
+}
+
+fn search(document: &mut Side, way: Direction, pattern: &[u8]) -> Went {
+    let distance = match way {
+        Direction::Left => find_left(document.left(), document.right(), pattern),
+        Direction::Right => find_right(document.right(), pattern),
+    };
+    let Some(d) = distance else {
+        return RANG;
+    };
+    match way {
+        Direction::Left => document.move_left(d),
+        Direction::Right => document.move_right(d),
+    }
+    Went { steps: d, bell: false }
+}
+
+/// The quotation becomes all that the quarter at `at` holds, and is cleared with its recall text; the mode becomes MAIN.
+fn hand_over(record: &mut Record, at: usize, side: &mut [u8]) {
+    let Record { ql, qr, .. } = *record;
+    let (own, others) = side.split_at_mut(2 * QUARTER);
+    let quarter = &mut others[at - 2 * QUARTER..][..QUARTER];
+    quarter[..ql].copy_from_slice(&own[..ql]);
+    quarter[ql..ql + qr].copy_from_slice(&own[QUARTER - qr..QUARTER]);
+    quarter[ql + qr..].fill(0);
+    own.fill(0);
+    (record.ql, record.qr, record.qrl, record.qrr, record.mode) = (0, 0, 0, 0, 0);
+}
+
+fn replace(record: &mut Record, text: &mut [u8], recall: &mut [u8], side: &mut [u8]) -> Result<Went, Full> {
+    let Record { l, r, pl, .. } = *record;
+    let (x, y) = if record.mode == 1 { (record.ql, record.qr) } else { (record.xl, record.xr) };
+    let here = text[text.len() - r..].starts_with(&side[2 * QUARTER..][..pl]);
+    if here && text.len() < l + r - pl + x + y {
+        return Err(Full);
+    }
+    if record.mode == 1 {
+        hand_over(record, 3 * QUARTER, side);
+        (record.xl, record.xr) = (x, y);
+    }
+    if !here {
+        return Ok(RANG);
+    }
+    let pattern = &side[2 * QUARTER..][..pl];
+    let (left, right) = side[3 * QUARTER..][..x + y].split_at(x);
+    on_document(record, text, recall, |document| document.exchange(pattern, left, right));
+    Ok(Went::default())
+}

@@ -1,0 +1,12 @@
+//! The limit: what every key call has to do at least, one vectorised pass over all lent bytes.
+
+use crate::numbers::Stores;
+
+#[inline(never)]
+fn pass(s: &[u8]) -> bool {
+    s.iter().fold(true, |ok, &b| ok & ((b == 10) | (32..=126).contains(&b)))
+}
+
+pub fn over(stores: &Stores) -> bool {
+    pass(&stores.text) & pass(&stores.recall) & pass(&stores.side) & pass(&stores.screen)
+}

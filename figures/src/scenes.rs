@@ -1,0 +1,83 @@
+//! What is measured: each scene is a session and a list of keys to press on it.
+
+use crate::numbers::{insert, Key, Record, Stores, FIND, QUOTE, RECALL, UPFIND};
+use crate::proved;
+use crate::random::Random;
+
+const DOCUMENT_LEFT: Key = Key(1, 0, 0, 4);
+const DOCUMENT_RIGHT: Key = Key(1, 0, 1, 4);
+const DELETE_TO_END: Key = Key(1, 1, 1, 4);
+const NEXT_LINE: Key = Key(1, 0, 1, 2);
+const NEXT_WORD: Key = Key(1, 0, 1, 1);
+
+pub struct Scene {
+    pub name: &'static str,
+    pub record: Record,
+    pub stores: Stores,
+    pub keys: Vec<Key>,
+}
+
+/// All scenes with T bytes of text store, H rows and W columns.
+pub fn all(t: usize, h: usize, w: usize) -> Vec<Scene> {
+    let scene = |name, document: &[u8], before: &[Key], keys: &[Key]| {
+        let (mut record, mut stores) = proved::open(document, t, h, w);
+        for &key in before {
+            record = proved::key(record, key, &mut stores).record;
+        }
+        Scene { name, record, stores, keys: keys.to_vec() }
+    };
+    // A share of the store stays free, as room for what is typed.
+    let n = t - t / 64;
+    let text = ordinary(n);
+    let letters = vec![b'a'; n];
+    let typed: Vec<Key> = b"the quick brown fox jumps over\nthe lazy dog".iter().map(|&b| insert(b)).collect();
+    let middle = to_middle(&text);
+    let rest = [DELETE_TO_END, RECALL];
+    let pattern = with_pattern(b"operates");
+    // Last, the odd letter is what a comparison comes to after 255 others. Within, first and last byte do not tell either.
+    let last = [vec![b'a'; 255], vec![b'b']].concat();
+    let within = [vec![b'a'; 127], vec![b'b'], vec![b'a'; 128]].concat();
+    vec![
+        scene("typing in the middle", &text, &middle, &typed),
+        scene("to the end and back", &text, &[], &[DOCUMENT_RIGHT, DOCUMENT_LEFT]),
+        scene("delete half and RECALL", &text, &[&middle[..], &rest].concat(), &rest),
+        scene("FIND, ordinary text", &text, &pattern, &[FIND]),
+        scene("UPFIND, ordinary text", &text, &[&pattern[..], &[DOCUMENT_RIGHT]].concat(), &[UPFIND]),
+        scene("FIND, odd letter last", &letters, &with_pattern(&last), &[FIND]),
+        scene("FIND, odd letter within", &letters, &with_pattern(&within), &[FIND]),
+        scene("QUOTE in and out", &text, &middle, &[QUOTE, QUOTE]),
+    ]
+}
+
+/// Lines of words, at most 72 columns wide.
+fn ordinary(n: usize) -> Vec<u8> {
+    let words =
+        ["the", "operator", "of", "a", "bench", "opens", "deck", "and", "reads", "cards", "in", "order", "one", "by", "punched"];
+    let mut random = Random::new(1);
+    let mut text = Vec::new();
+    let mut column = 0;
+    while text.len() < n {
+        let word = random.one(&words);
+        if column + word.len() > 71 || random.once_in(40) {
+            text.push(b'\n');
+            column = 0;
+        }
+        text.extend_from_slice(word.as_bytes());
+        text.push(b' ');
+        column += word.len() + 1;
+    }
+    text.truncate(n);
+    text
+}
+
+/// Keys that bring the cursor from the beginning to the middle, into a line.
+fn to_middle(text: &[u8]) -> Vec<Key> {
+    let lines = text[..text.len() / 2].iter().filter(|&&b| b == b'\n').count();
+    [vec![NEXT_LINE; lines], vec![NEXT_WORD; 2]].concat()
+}
+
+/// Keys that store a pattern which occurs nowhere: the cursor stays.
+fn with_pattern(pattern: &[u8]) -> Vec<Key> {
+    let typed = pattern.iter().map(|&b| insert(b));
+    [QUOTE].into_iter().chain(typed).chain([FIND]).collect()
+}

@@ -1,0 +1,101 @@
+//! Random walks that both cores go, compared in answer, record and every byte of the stores after each key.
+
+use crate::numbers::{insert, Key, Record, Reply, Stores, FIND, QUOTE, RECALL, REPLACE, UPFIND};
+use crate::random::Random;
+use crate::{hand, proved};
+
+/// How the calls of the walks were answered: by code, and the accepted ones with the bell.
+#[derive(Default)]
+pub struct Counts {
+    pub codes: [u64; 7],
+    pub bells: u64,
+}
+
+/// Goes so many walks of 200 keys each.
+pub fn compare(walks: u64) -> Counts {
+    let mut counts = Counts::default();
+    for seed in 0..walks {
+        walk(&mut Random::new(seed), &mut counts);
+    }
+    counts
+}
+
+fn walk(random: &mut Random, counts: &mut Counts) {
+    let t = 1 + match random.below(4) {
+        0 => random.below(16),
+        1 | 2 => random.below(600),
+        _ => random.below(5000),
+    };
+    let (rows, columns) = random.one(&[(8, 16), (64, 256)]);
+    let (h, w) = (1 + random.below(rows), 1 + random.below(columns));
+    let n = random.below(t + 1);
+    let document: Vec<u8> = (0..n).map(|_| letter(random)).collect();
+    let (mut record, mut stores) = proved::open(&document, t, h, w);
+    for _ in 0..200 {
+        let key = any_key(random);
+        if random.once_in(4) {
+            let mut damaged = stores.clone();
+            let n = damage(random, record, &mut damaged);
+            both(n, key, &mut damaged, counts);
+        }
+        record = both(record, key, &mut stores, counts).record;
+    }
+}
+
+/// Presses the key on both cores and keeps the outcome, which must be one.
+fn both(record: Record, key: Key, stores: &mut Stores, counts: &mut Counts) -> Reply {
+    let mut other = stores.clone();
+    let reply = proved::key(record, key, stores);
+    let by_hand = hand::key(record, key, &mut other.text, &mut other.recall, &mut other.side, &mut other.screen);
+    assert_eq!(reply, by_hand, "answers and records are equal after {key:?} on {record:?}");
+    assert!(*stores == other, "stores are equal after {key:?} on {record:?}");
+    counts.codes[reply.answer.code] += 1;
+    counts.bells += reply.answer.bell as u64;
+    reply
+}
+
+/// Few letters, so that patterns are found.
+fn letter(random: &mut Random) -> u8 {
+    random.one(b"aaab  \n")
+}
+
+fn any_key(random: &mut Random) -> Key {
+    match random.below(20) {
+        0..=6 => insert(letter(random)),
+        7 => insert(random.below(256) as u8),
+        8..=12 => Key(1, random.below(2), random.below(2), random.below(5)),
+        13 => RECALL,
+        14 | 15 => QUOTE,
+        16 => FIND,
+        17 => UPFIND,
+        18 => REPLACE,
+        _ => Key(random.below(8), random.below(300), random.below(3), random.below(7)),
+    }
+}
+
+/// Changes a number of the record, a byte of a store or the length of one, or cuts the recall texts in two.
+fn damage(random: &mut Random, mut n: Record, stores: &mut Stores) -> Record {
+    let Stores { text, recall, side, screen } = stores;
+    match random.below(7) {
+        0..=2 => {
+            let m = &mut n;
+            let numbers = [&mut m.l, &mut m.r, &mut m.ql, &mut m.qr, &mut m.rl, &mut m.rr, &mut m.qrl, &mut m.qrr];
+            let others = [&mut m.xl, &mut m.xr, &mut m.pl, &mut m.mode, &mut m.top, &mut m.left, &mut m.rows, &mut m.columns];
+            let number = numbers.into_iter().chain(others).nth(random.below(16)).unwrap();
+            *number = number.wrapping_add(random.one(&[1, 1, 1, usize::MAX, 1 << 63]));
+        }
+        3 => {
+            let store = if random.once_in(2) { text } else { recall };
+            let at = random.below(store.len());
+            store[at] = random.one(&[0, 9, 31, 32, 126, 127, 255]);
+        }
+        4 => {
+            let cut = |x: usize, y: usize| if x > 1 { (x - 1, y + 1) } else { (x, y) };
+            (n.rl, n.rr) = cut(n.rl, n.rr);
+            (n.qrl, n.qrr) = cut(n.qrl, n.qrr);
+        }
+        5 => side[random.below(1024)] = random.one(&[0, 9, 10, 97, 127]),
+        _ => [text, recall, side, screen].into_iter().nth(random.below(4)).unwrap().push(0),
+    }
+    n
+}
