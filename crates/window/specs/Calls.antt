@@ -8,7 +8,7 @@ use Rattle.editor.specs.declared.Reply.{Reply as editorReply}
 use Rattle.editor.specs.Plain.{Plain, Did}
 use Rattle.editor.specs.Bytes.{Stores, quarter, quarterOf, plainOf}
 use Rattle.window.specs.declared.Spot.{Spot}
-use Rattle.window.specs.declared.Pen.{Pen}
+use Rattle.window.specs.declared.Rows.{Rows}
 use Rattle.window.specs.declared.Reply.{Reply}
 use Rattle.window.specs.Window.{virtualIn, rowOf, columnOf, window, policyRow, policyColumn}
 use Rattle.window.specs.Rows.{firstRow, lastRow}
@@ -42,11 +42,10 @@ abbrev pub virtualHeld : Lengths → List ℕ → List ℕ → Doc
 virtualHeld n text side =
     virtualIn (n .mode) (ungap (n .main .l) (n .main .r) text) (ungap (n .quoted .l) (n .quoted .r) (quarterOf quarter 0 side))
 
--- A screen made new: it is the window, and the pen has the named rows.
-pub record Refreshed (f : Frame) (d : Doc) (old : List ℕ) (pen : Pen) (new : List ℕ) : Type 0 where
+-- A screen made new: it is the window, and the rows are those that changed.
+pub record Refreshed (f : Frame) (d : Doc) (old : List ℕ) (named : Rows) (new : List ℕ) : Type 0 where
   pub screen : new ≡ window f d
-  pub first : pen .first ≡ firstRow (f .h) (f .w) old (window f d)
-  pub last : pen .last ≡ lastRow (f .h) (f .w) old (window f d)
+  pub rows : named ≡ record { first = firstRow (f .h) (f .w) old (window f d); last = lastRow (f .h) (f .w) old (window f d) }
 
 -- ---- Calls
 

@@ -233,15 +233,15 @@ fn show(
     let lengths = done.lengths;
     let spot = cursor(lengths, text, side);
     let g = follow(f, spot);
-    let pen = refresh(lengths, g, text, side, screen);
+    let rows = refresh(lengths, g, text, side, screen);
     Reply {
         answer: Answer {
             code: 0,
             place: 0,
             steps: done.steps,
             bell: done.bell,
-            first: pen.first,
-            last: pen.last,
+            first: rows.first,
+            last: rows.last,
             row: spot.row - g.r,
             column: spot.column - g.c,
         },

@@ -35,6 +35,12 @@ pub struct Pen {
     pub last: usize,
 }
 
+// The named rows, first and last.
+pub struct Rows {
+    pub first: usize,
+    pub last: usize,
+}
+
 // What a call answers.
 pub struct Answer {
     pub code: usize,

@@ -2,6 +2,7 @@
 // the way.
 use crate::Frame;
 use crate::Pen;
+use crate::Rows;
 use editor::Lengths;
 use editor::Mode;
 use gap::lines::count_newlines;
@@ -343,11 +344,21 @@ fn paint_quoted(
     feed(f, closed, &text[back..], screen)
 }
 
-// The virtual text becomes the screen.
-pub fn refresh(n: Lengths, f: Frame, text: &[u8], side: &[u8], screen: &mut [u8]) -> Pen
+// The rows that a pen has named.
+fn named_rows(pen: Pen) -> Rows
+    ensures { λ rows. ⌜ rows ≡ record { first = pen .first; last = pen .last } ⌝ }
+{
+    Rows {
+        first: pen.first,
+        last: pen.last,
+    }
+}
+
+// The virtual text becomes the screen, and the changed rows are named.
+pub fn refresh(n: Lengths, f: Frame, text: &[u8], side: &[u8], screen: &mut [u8]) -> Rows
     requires { ⌜ Texts n (now text) (now side) ⌝ }
     requires { ⌜ (Canvas f (length (now text)) (now screen)) × (visible f (virtualHeld n (now text) (now side)) ≡ true) ⌝ }
-    ensures { λ q. ⌜ Refreshed f (virtualHeld n (now (text .entry)) (now (side .entry))) (now (screen .entry)) q (now (screen .exit)) ⌝ }
+    ensures { λ rows. ⌜ Refreshed f (virtualHeld n (now (text .entry)) (now (side .entry))) (now (screen .entry)) rows (now (screen .exit)) ⌝ }
 {
     let main = n.main;
     let quoted = n.quoted;
@@ -355,7 +366,7 @@ pub fn refresh(n: Lengths, f: Frame, text: &[u8], side: &[u8], screen: &mut [u8]
     match mode {
         Mode::Main => {
             let pen = paint_main(f, text, main.l, main.r, screen);
-            finish(f, pen, screen)
+            named_rows(finish(f, pen, screen))
         }
         Mode::Quoted => {
             let pen = paint_quoted(
@@ -368,7 +379,7 @@ pub fn refresh(n: Lengths, f: Frame, text: &[u8], side: &[u8], screen: &mut [u8]
                 quoted.r,
                 screen,
             );
-            finish(f, pen, screen)
+            named_rows(finish(f, pen, screen))
         }
     }
 }

@@ -25,7 +25,7 @@ use Rattle.editor.proofs.Theorems.Sessions.{key-keeps}
 use Rattle.editor.proofs.Theorems.Refusals.{refused-number}
 use Rattle.window.specs.Words.{Lengths, Frame, Session, Key, Mode, Main, Quoted}
 use Rattle.window.specs.declared.Spot.{Spot}
-use Rattle.window.specs.declared.Pen.{Pen}
+use Rattle.window.specs.declared.Rows.{Rows}
 use Rattle.window.specs.declared.Reply.{Reply}
 use Rattle.window.specs.Window.{virtual, virtualIn, rowOf, columnOf, window, visible, policy}
 use Rattle.window.specs.Core.{Lent, Called, T, rowsAndColumns, tabled, isSession, shown, finished, keyed, held, lentOf}
@@ -186,15 +186,15 @@ module _ (f : Frame) (n : Lengths) (t c s scr : List ℕ) (sound : Sound quarter
         }
 
     -- The reply is what the definition shows.
-    pub shows-so : (steps : ℕ) (bell : Bool) (pen : Pen) (new : List ℕ) → Refreshed g (virtualHeld n t s) scr pen new
-        → shownAs steps bell (pen .first) (pen .last) spot g n new (stores t c s)
+    pub shows-so : (steps : ℕ) (bell : Bool) (rows : Rows) (new : List ℕ) → Refreshed g (virtualHeld n t s) scr rows new
+        → shownAs steps bell (rows .first) (rows .last) spot g n new (stores t c s)
         ≡ shown f (lent t c s scr) (record { state = plainOf quarter n (stores t c s); steps = steps; bell = bell })
     unfolding shown plainOf policy
-    shows-so steps bell pen new fresh =
+    shows-so steps bell rows new fresh =
         let d = virtualHeld n t s in
         let encoded = session-encoded quarter n (stores t c s) (sound .tabled) (sound .ok) in
-        let first = fresh .first ∙ ap (λ q. firstRow (q .h) (q .w) scr (window q d)) followed in
-        let last = fresh .last ∙ ap (λ q. lastRow (q .h) (q .w) scr (window q d)) followed in
+        let first = ap (λ q. q .first) (fresh .rows) ∙ ap (λ q. firstRow (q .h) (q .w) scr (window q d)) followed in
+        let last = ap (λ q. q .last) (fresh .rows) ∙ ap (λ q. lastRow (q .h) (q .w) scr (window q d)) followed in
         let screen = fresh .screen ∙ ap (λ q. window q d) followed in
         λ i. shownAs steps bell (first i) (last i) (here i) (followed i) (sym (encoded .lengths) i) (screen i) (sym (encoded .stores) i)
 

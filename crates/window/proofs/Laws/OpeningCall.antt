@@ -24,7 +24,7 @@ use Rattle.editor.specs.Bytes.{quarter, lengthsOf, storesOf}
 use Rattle.editor.proofs.Laws.Quotation.{no-quotation}
 use Rattle.editor.proofs.Laws.Session.{measured}
 use Rattle.window.specs.Words.{Lengths}
-use Rattle.window.specs.declared.Pen.{Pen}
+use Rattle.window.specs.declared.Rows.{Rows}
 use Rattle.window.specs.declared.Reply.{Reply}
 use Rattle.window.specs.Window.{virtualIn, window, visible}
 use Rattle.window.specs.Painter.{Canvas}
@@ -117,8 +117,8 @@ module _ (n H W : ℕ) (b : Lent) (fit : tabled H W b ≡ true) (fits : n ≤ T 
         )
 
     -- The reply and the four stores are those of the text opened.
-    pub text-opened : {recallThen screenThen : List ℕ} {pen : Pen} → recallThen ≡ zeros (length (b .stores .recall))
-        → Refreshed (start H W) (virtualHeld m textThen sideThen) (b .screen) pen screenThen
+    pub text-opened : {recallThen screenThen : List ℕ} {rows : Rows} → recallThen ≡ zeros (length (b .stores .recall))
+        → Refreshed (start H W) (virtualHeld m textThen sideThen) (b .screen) rows screenThen
         → called
         (record {
           answer = record { code = 0; place = 0; steps = 0; bell = false; first = 1; last = H; row = 1; column = 0 };

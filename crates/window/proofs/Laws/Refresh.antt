@@ -15,6 +15,7 @@ use Rattle.editor.specs.Bytes.{quarter, quarterOf}
 use Rattle.window.specs.Words.{Lengths, Mode, Main, Quoted, Frame}
 use Rattle.window.specs.Window.{virtualIn, visible}
 use Rattle.window.specs.Painter.{Painting, begun, above, paint, finishPaint, Easel, Canvas}
+use Rattle.window.specs.declared.Rows.{Rows}
 use Rattle.window.specs.Calls.{Texts, virtualHeld, Refreshed}
 use Rattle.window.proofs.Laws.Window.{visible-says}
 use Rattle.window.proofs.Laws.Spots.{first-quarter}
@@ -101,7 +102,8 @@ module _ {f : Frame} {n : Lengths} {text side screen : List ℕ} {p : Painting} 
         paint-not-above f (content d) (begun screen) (all .canvas .long) low,
       )
 
-  pub refreshed : {q : Painting} → q ≡ finishPaint f p → Refreshed f (virtualHeld n text side) screen (q .pen) (q .screen)
-  refreshed e =
+  pub refreshed : {q : Painting} {rows : Rows} → q ≡ finishPaint f p → rows ≡ record { first = q .pen .first; last = q .pen .last }
+      → Refreshed f (virtualHeld n text side) screen rows (q .screen)
+  refreshed e named =
       let done = painted f (virtualHeld n text side) screen (all .canvas .long) in
-      rw (e, all .whole) (record { screen = done .0; first = done .1; last = done .2 })
+      rw (named, e, all .whole) (record { screen = done .0; rows = λ i. record { first = done .1 i; last = done .2 i } })

@@ -40,6 +40,9 @@ paint-main-requires c κs = search needs
 finish-requires : tie.Need-finish-requires
 finish-requires c κs = finish-asked (in-main (c .before .before .before))
 
+named-rows-requires : tie.Need-named-rows-requires
+named-rows-requires c κs = search needs
+
 enum-told-2 : tie.Need-enum-told-2
 enum-told-2 c = search needs
 
@@ -53,17 +56,21 @@ paint-quoted-requires c κs =
 finish-requires-2 : tie.Need-finish-requires-2
 finish-requires-2 c κs = finish-asked (in-quoted (c .before .before .before))
 
+named-rows-requires-2 : tie.Need-named-rows-requires-2
+named-rows-requires-2 c κs = search needs
+
 same-length : tie.Need-same-length
 same-length c = search needs
 
 returns : tie.Need-returns
-returns c = refreshed (in-main (c .before .before .before .before .before .before)) (c .before .before .finish .ensures)
+returns c = refreshed (in-main (c .before .before .before .before .before .before .before)) (c .before .before .before .finish .ensures) (c .named-rows .ensures)
 
 same-length-2 : tie.Need-same-length-2
 same-length-2 c = search needs
 
 returns-2 : tie.Need-returns-2
-returns-2 c = refreshed (in-quoted (c .before .before .before .before .before .before)) (c .before .before .finish2 .ensures)
+returns-2 c =
+    refreshed (in-quoted (c .before .before .before .before .before .before .before)) (c .before .before .before .finish2 .ensures) (c .named-rows2 .ensures)
 
 pub refresh-spec : {M : Type 1} → statement M
 refresh-spec =
@@ -72,10 +79,12 @@ refresh-spec =
     enum-told
     paint-main-requires
     finish-requires
+    named-rows-requires
     enum-told-2
     slice-aggregate-paint-quoted
     paint-quoted-requires
     finish-requires-2
+    named-rows-requires-2
     same-length
     returns
     same-length-2
