@@ -5,4 +5,6 @@ pub mod KeyNames
 pub mod ScriptLines
 pub mod Scripts
 pub mod Printed
+pub mod Beginnings
+pub mod Blocks
 pub mod Turning

@@ -1,133 +1,26 @@
--- Laws of the beginning and of the turns.
+-- Laws of the turns, and of playing them one after the other.
 use mathlib.Core.Path.{_≡_, refl, sym, ap, subst, _∙_}
-use mathlib.Core.Bool.{Bool, true, false, _&&_, cond, false≢true}
-use mathlib.Core.List.{List, [], _∷_}
-use Prim.Native.Nat.{ℕ, zero, suc, _+_, _-_, _*_, _≤_, _<_, min, zero-le}
+use mathlib.Core.Bool.{Bool, true, false, cond, false≢true}
+use mathlib.Core.List.{List}
+use Prim.Native.Nat.{ℕ, suc, _+_, _-_, _≤_, _<_, zero-le}
 use native.Mathlib.Numerals.{add-one}
-use native.Mathlib.Nat.{zero-min, min-zero, suc-min-suc}
 use native.Mathlib.Omega.{arith}
-use lib.Dec.{eqb, leb}
-use lib.ListN.{length, take, drop}
-use borrow.Author.Tests.{leb-true, le-leb, lt-leb, eq-eqb, ne-eqb}
-use borrow.Rule.Slice.PartMut.{midOf}
-use Rattle.gap.specs.Sequence.{part, patch}
+use lib.Dec.{eqb}
+use lib.ListN.{length}
 use Rattle.gap.specs.Written.{Wrote}
 use Rattle.gap.proofs.Laws.Writers.{wrote-none, wrote-length}
-use Rattle.gap.proofs.Laws.Tests.{cond-true, cond-false, and-left, and-right}
 use Rattle.editor.specs.declared.Key.{Key}
 use Rattle.window.specs.declared.Session.{Session}
 use Rattle.window.specs.declared.Reply.{Reply}
-use Rattle.window.specs.declared.Answer.{Answer as Said}
-use Rattle.window.specs.Core.{Lent, Called, rowsAndColumns, tabled, opened, keyed}
+use Rattle.window.specs.Core.{Lent, opened, keyed}
 use Rattle.window.specs.Calls.{lent, called}
-use Rattle.window.proofs.Laws.Views.{tabled-facts}
-use Rattle.window.proofs.Laws.KeyCall.{product-small}
-use Rattle.window.proofs.Theorems.Refusals.{opening-accepted, key-accepted}
-use Rattle.bench.specs.Words.{Header, Heading, Headed, Broken, Pressed, Finished, Unknown}
+use Rattle.bench.specs.Words.{Header, Pressed, Finished, Unknown}
 use Rattle.bench.specs.declared.Turn.{Turn}
-use Rattle.bench.specs.Script.{lineNumber, headingOf, readingAt}
-use Rattle.bench.specs.Print.{answerOf, acceptedBlock, refusedBlock, block, scriptLine, Printable}
-use Rattle.bench.specs.Run.{unlessLarge, beginning, screenSize, laidOut, Turned, openingTurn, pressedTurn, read, nextTurn}
-use Rattle.bench.proofs.Laws.Scripts.{pressed-goes-on, headed-inside}
+use Rattle.bench.specs.Script.{lineNumber, readingAt}
+use Rattle.bench.specs.Print.{answerOf, block, scriptLine}
+use Rattle.bench.specs.Run.{laidOut, Turned, openingTurn, pressedTurn, read, nextTurn}
+use Rattle.bench.proofs.Laws.Scripts.{pressed-goes-on}
 use Rattle.bench.specs.Turns.{stateOf, Does, Onward}
-
--- ---- The beginning
-
-pub store-large : (h : Header) → 4096 < h .store → Broken 0 ≡ unlessLarge (Headed h)
-store-large h large = sym (cond-false _ _ (lt-leb (h .store) 4096 large))
-
-pub store-fits : (h : Header) → h .store ≤ 4096 → Headed h ≡ unlessLarge (Headed h)
-store-fits h fits = sym (cond-true _ _ (le-leb (h .store) 4096 fits))
-
-pub input-long : (input : List ℕ) → 8192 < length input → Broken 0 ≡ beginning input
-unfolding beginning
-input-long input long = sym (cond-false _ _ (lt-leb (length input) 8192 long))
-
-pub input-read : (input : List ℕ) (h r : Heading) → length input ≤ 8192 → h ≡ headingOf input → r ≡ unlessLarge h → r ≡ beginning input
-unfolding beginning
-input-read input h r short e f = f ∙ (ap unlessLarge e ∙ sym (cond-true _ _ (le-leb (length input) 8192 short)))
-
-take-nil : (n : ℕ) → take {A = ℕ} n [] ≡ []
-take-nil zero = refl
-take-nil (suc n) = refl
-
-take-least : (n room : ℕ) (s : List ℕ) → take (min n room) s ≡ take room (take n s)
-take-least zero room s = rw zero-min (sym (take-nil room))
-take-least (suc n) zero s = rw min-zero
-take-least (suc n) (suc room) [] = rw suc-min-suc
-take-least (suc n) (suc room) (b ∷ s) = rw suc-min-suc (ap (λ rest. b ∷ rest) (take-least n room s))
-
--- What a header that was read tells: the text stands within the input, and the store is not too large.
-unbroken : (t : Bool) (g : Heading) (h : Header) → Headed h ≡ cond t g (Broken 0) → (t ≡ true) × (g ≡ Headed h)
-unbroken true g h e = (refl, sym e)
-unbroken false g h e = (cc, cc)
-
-small : (g : Heading) (h : Header) → unlessLarge g ≡ Headed h → (g ≡ Headed h) × (h .store ≤ 4096)
-small (Broken line) h e = absurd (false≢true cc)
-small (Headed g) h e =
-    let known = unbroken (leb (g .store) 4096) (Headed g) h (sym e) in
-    let same : g ≡ h = cc in
-    (known .1, subst (λ x. x .store ≤ 4096) same (leb-true (g .store) 4096 (known .0)))
-
-pub begun : (input : List ℕ) (h : Header) → Headed h ≡ beginning input → (h .at + h .length < length input) × (h .store ≤ 4096)
-unfolding beginning
-begun input h e =
-    let known = small (headingOf input) h (unbroken (leb (length input) 8192) (unlessLarge (headingOf input)) h e .1) in
-    (headed-inside input (known .0), known .1)
-
--- The screen that is lent.
-pub no-screen : (h w : ℕ) {ok : Bool} → ok ≡ rowsAndColumns h w → ok ≡ false → (0 ≡ screenSize h w) × (0 ≤ 16384)
-no-screen h w e bad = (sym (cond-false (h * w) 0 (sym e ∙ bad)), zero-le)
-
-pub screen-fits : (h w : ℕ) {ok : Bool} → ok ≡ rowsAndColumns h w → ok ≡ true → h * w ≤ 16384
-screen-fits h w e good = product-small h w (sym e ∙ good)
-
-pub some-screen : (h w : ℕ) {ok : Bool} → ok ≡ rowsAndColumns h w → ok ≡ true → (h * w ≡ screenSize h w) × (h * w ≤ 16384)
-some-screen h w e good = (sym (cond-true (h * w) 0 (sym e ∙ good)), screen-fits h w e good)
-
--- As much of a part of the input as there is room for is itself a part of it.
-pub part-laid : (at n size : ℕ) (input text : List ℕ) → size ≡ min n (length text) → at + n ≤ length input
-    → patch 0 (midOf at (at + size - at) input) text ≡ patch 0 (take (length text) (part at n input)) text
-unfolding part
-part-laid at n size input text e fits =
-    let whole : at + size - at ≡ size = omega arith in
-    rw (whole, e, take-least n (length text) (drop at input))
-
--- ---- Blocks
-
-module _ (h w : ℕ) (a : Said) (screen : List ℕ) {n : ℕ} {old new : List ℕ} where
-  pub block-accepted : a .code ≤ 0 → Wrote 0 (acceptedBlock h w (answerOf a) screen) old n new
-      → Wrote 0 (block h w (answerOf a) screen) old n new
-  unfolding block
-  block-accepted none wrote =
-      let e : a .code ≡ 0 = omega arith in
-      subst (λ run. Wrote 0 run old n new) (sym (cond-true _ _ (eq-eqb (a .code) 0 e))) wrote
-
-  pub block-refused : 0 < a .code → Wrote 0 (refusedBlock (a .code) (a .place)) old n new
-      → Wrote 0 (block h w (answerOf a) screen) old n new
-  unfolding block
-  block-refused some wrote =
-      subst (λ run. Wrote 0 run old n new) (sym (cond-false _ _ (ne-eqb (a .code) 0 (λ e. omega arith)))) wrote
-
--- An accepted call's screen can be printed.
-tabled-printable : (H W : ℕ) (b : Lent) (screen : List ℕ) → length screen ≡ length (b .screen) → tabled H W b ≡ true → Printable H W screen
-tabled-printable H W b screen same fit =
-    let facts = tabled-facts H W b fit in
-    record {
-      rows = leb-true H 64 (and-right (leb 1 H) _ (and-left (leb 1 H && leb H 64) _ (facts .frame)));
-      columns = leb-true W 256 (and-right (leb 1 W) _ (and-right (leb 1 H && leb H 64) _ (facts .frame)));
-      long = same ∙ facts .long;
-    }
-
-pub opened-printable : (n H W : ℕ) (b : Lent) (o : Called) → o ≡ opened n H W b → (screen : List ℕ) → length screen ≡ length (b .screen)
-    → o .answer .code ≡ 0 → Printable H W screen
-opened-printable n H W b o e screen same good =
-    tabled-printable H W b screen same (opening-accepted n H W b .0 (ap (λ x. x .answer .code) (sym e) ∙ good) .0)
-
-pub keyed-printable : (s : Session) (k : Key) (b : Lent) (o : Called) → o ≡ keyed s k b → (screen : List ℕ)
-    → length screen ≡ length (b .screen) → o .answer .code ≡ 0 → Printable (s .frame .h) (s .frame .w) screen
-keyed-printable s k b o e screen same good =
-    tabled-printable (s .frame .h) (s .frame .w) b screen same (key-accepted s k b .0 (ap (λ x. x .answer .code) (sym e) ∙ good) .0)
 
 -- ---- Turns
 

@@ -1,6 +1,6 @@
 -- `start` lends stores only for a header that was read.
 use mathlib.Core.Path.{sym, _∙_}
-use Rattle.bench.proofs.Laws.Turning.{begun}
+use Rattle.bench.proofs.Laws.Beginnings.{begun}
 use borrow.Author.Needs.{needs}
 use Rattle.bench.proofs.start.Statement.{statement}
 use Rattle.bench.proofs.start.Tie as tie

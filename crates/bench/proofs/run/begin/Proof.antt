@@ -1,7 +1,7 @@
 -- `begin` decides as the definition does: the input's length first, then the header, then the store.
 use mathlib.Core.Path.{refl, sym, _∙_}
 use borrow.Author.Needs.{needs}
-use Rattle.bench.proofs.Laws.Turning.{input-long, input-read}
+use Rattle.bench.proofs.Laws.Beginnings.{input-long, input-read}
 use Rattle.bench.proofs.run.begin.Statement.{statement}
 use Rattle.bench.proofs.run.begin.Tie as tie
 

@@ -1,7 +1,7 @@
 -- `lay_out` copies the part that there is room for.
 use mathlib.Core.Path.{_∙_}
 use denote.Ref.{now}
-use Rattle.bench.proofs.Laws.Turning.{part-laid}
+use Rattle.bench.proofs.Laws.Beginnings.{part-laid}
 use borrow.Author.Needs.{needs}
 use Rattle.bench.proofs.run.lay_out.Statement.{statement}
 use Rattle.bench.proofs.run.lay_out.Tie as tie

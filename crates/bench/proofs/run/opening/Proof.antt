@@ -1,5 +1,6 @@
 -- `opening` lays the text out, opens it, and prints the block.
-use Rattle.bench.proofs.Laws.Turning.{opened-printable, opening-does}
+use Rattle.bench.proofs.Laws.Blocks.{opened-printable}
+use Rattle.bench.proofs.Laws.Turning.{opening-does}
 use borrow.Author.Needs.{needs}
 use Rattle.bench.proofs.run.opening.Statement.{statement}
 use Rattle.bench.proofs.run.opening.Tie as tie

@@ -1,5 +1,6 @@
 -- `press_key` is the key call and its block.
-use Rattle.bench.proofs.Laws.Turning.{keyed-printable, press-does}
+use Rattle.bench.proofs.Laws.Blocks.{keyed-printable}
+use Rattle.bench.proofs.Laws.Turning.{press-does}
 use borrow.Author.Needs.{needs}
 use Rattle.bench.proofs.run.press_key.Statement.{statement}
 use Rattle.bench.proofs.run.press_key.Tie as tie

@@ -1,6 +1,6 @@
 -- `put_block` prints the block that the code asks for.
 use native.Mathlib.Omega.{arith}
-use Rattle.bench.proofs.Laws.Turning.{block-accepted, block-refused}
+use Rattle.bench.proofs.Laws.Blocks.{block-accepted, block-refused}
 use borrow.Author.Needs.{needs}
 use Rattle.bench.proofs.run.put_block.Statement.{statement}
 use Rattle.bench.proofs.run.put_block.Tie as tie

@@ -2,7 +2,7 @@
 use borrow.Author.Needs.{needs}
 use borrow.Author.Tests.{not-true, not-false}
 use native.Mathlib.Omega.{arith}
-use Rattle.bench.proofs.Laws.Turning.{no-screen, some-screen, screen-fits}
+use Rattle.bench.proofs.Laws.Beginnings.{no-screen, some-screen, screen-fits}
 use Rattle.bench.proofs.run.screen_size.Statement.{statement}
 use Rattle.bench.proofs.run.screen_size.Tie as tie
 

@@ -1,5 +1,5 @@
 -- `unless_large` decides as the definition does.
-use Rattle.bench.proofs.Laws.Turning.{store-large, store-fits}
+use Rattle.bench.proofs.Laws.Beginnings.{store-large, store-fits}
 use Rattle.bench.proofs.run.unless_large.Statement.{statement}
 use Rattle.bench.proofs.run.unless_large.Tie as tie
 
