@@ -1,7 +1,8 @@
 //! Nanoseconds a key: medians over many short batches that take turns, so that noise hits all alike.
 
-use crate::numbers::{Record, Stores};
+use crate::chidukwore::Record;
 use crate::scenes::Scene;
+use crate::stores::Stores;
 use crate::{hand, limit, proved};
 use std::hint::black_box;
 use std::time::{Duration, Instant};

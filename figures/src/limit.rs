@@ -1,6 +1,6 @@
 //! The limit: what every key call has to do at least, one vectorised pass over all lent bytes.
 
-use crate::numbers::Stores;
+use crate::stores::Stores;
 
 #[inline(never)]
 fn pass(s: &[u8]) -> bool {

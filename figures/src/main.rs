@@ -1,12 +1,14 @@
 //! Compares the proved core with one written by hand, first in what they do, then in how long a key takes, and prints one table.
 
+#[path = "../../host/rust/chidukwore.rs"]
+mod chidukwore;
 mod clock;
 mod hand;
 mod limit;
-mod numbers;
 mod proved;
 mod random;
 mod scenes;
+mod stores;
 mod table;
 mod walk;
 

@@ -1,8 +1,9 @@
 //! What is measured: each scene is a session and a list of keys to press on it.
 
-use crate::numbers::{insert, Key, Record, Stores, FIND, QUOTE, RECALL, UPFIND};
+use crate::chidukwore::{insert, Key, Record, FIND, QUOTE, RECALL, UPFIND};
 use crate::proved;
 use crate::random::Random;
+use crate::stores::Stores;
 
 const DOCUMENT_LEFT: Key = Key(1, 0, 0, 4);
 const DOCUMENT_RIGHT: Key = Key(1, 0, 1, 4);

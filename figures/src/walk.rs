@@ -1,7 +1,8 @@
 //! Random walks that both cores go, compared in answer, record and every byte of the stores after each key.
 
-use crate::numbers::{insert, Key, Record, Reply, Stores, FIND, QUOTE, RECALL, REPLACE, UPFIND};
+use crate::chidukwore::{insert, Key, Record, Reply, FIND, QUOTE, RECALL, REPLACE, UPFIND};
 use crate::random::Random;
+use crate::stores::Stores;
 use crate::{hand, proved};
 
 /// How the calls of the walks were answered: by code, and the accepted ones with the bell.

@@ -1,51 +1,8 @@
 //! Opens a small deck, presses some keys and prints what each call answers and the rows it names.
 
-#[repr(C)]
-#[derive(Clone, Copy, Default)]
-struct Record {
-    document: [usize; 2],
-    quotation: [usize; 2],
-    recall: [usize; 2],
-    quotation_recall: [usize; 2],
-    replacement: [usize; 2],
-    pattern: usize,
-    mode: usize,
-    offsets: [usize; 2],
-    rows: usize,
-    columns: usize,
-}
+mod chidukwore;
 
-#[repr(C)]
-#[derive(Clone, Copy)]
-struct Answer {
-    code: usize,
-    place: usize,
-    steps: usize,
-    bell: usize,
-    first: usize,
-    last: usize,
-    row: usize,
-    column: usize,
-}
-
-#[repr(C)]
-struct Reply {
-    answer: Answer,
-    record: Record,
-}
-
-extern "C" {
-    fn chidukwore_open(
-        n: usize, rows: usize, columns: usize,
-        text: *mut u8, text_length: usize, recall: *mut u8, recall_length: usize,
-        side: *mut u8, side_length: usize, screen: *mut u8, screen_length: usize,
-    ) -> Reply;
-    fn chidukwore_key(
-        record: Record, kind: usize, a: usize, b: usize, c: usize,
-        text: *mut u8, text_length: usize, recall: *mut u8, recall_length: usize,
-        side: *mut u8, side_length: usize, screen: *mut u8, screen_length: usize,
-    ) -> Reply;
-}
+use chidukwore::{insert, Key, Record, Reply, Stores, FIND, QUOTE, RECALL};
 
 const ROWS: usize = 2;
 const COLUMNS: usize = 4;
@@ -60,28 +17,18 @@ struct Bench {
 }
 
 impl Bench {
+    fn lent(&mut self) -> Stores<'_> {
+        Stores { text: &mut self.text, recall: &mut self.recall, side: &mut self.side, screen: &mut self.screen }
+    }
+
     fn open(&mut self, deck: &[u8]) {
         self.text[..deck.len()].copy_from_slice(deck);
-        // Sound: each pointer comes with the length of its own array.
-        let reply = unsafe {
-            chidukwore_open(
-                deck.len(), ROWS, COLUMNS,
-                self.text.as_mut_ptr(), self.text.len(), self.recall.as_mut_ptr(), self.recall.len(),
-                self.side.as_mut_ptr(), self.side.len(), self.screen.as_mut_ptr(), self.screen.len(),
-            )
-        };
+        let reply = chidukwore::open(deck.len(), ROWS, COLUMNS, self.lent());
         self.print("open", reply);
     }
 
-    fn key(&mut self, what: &str, kind: usize, numbers: [usize; 3]) {
-        let [a, b, c] = numbers;
-        let reply = unsafe {
-            chidukwore_key(
-                self.record, kind, a, b, c,
-                self.text.as_mut_ptr(), self.text.len(), self.recall.as_mut_ptr(), self.recall.len(),
-                self.side.as_mut_ptr(), self.side.len(), self.screen.as_mut_ptr(), self.screen.len(),
-            )
-        };
+    fn key(&mut self, what: &str, key: Key) {
+        let reply = chidukwore::key(self.record, key, self.lent());
         self.print(what, reply);
     }
 
@@ -103,13 +50,13 @@ impl Bench {
 fn main() {
     let mut bench = Bench { text: [0; 16], recall: [0; 16], side: [0; 1024], screen: [0; 8], record: Record::default() };
     bench.open(b"a=1\nbb=22\nc");
-    bench.key("left to a line ending", 1, [0, 0, 3]);
-    bench.key("right to a line ending", 1, [0, 1, 3]);
-    bench.key("quote", 3, [0; 3]);
-    bench.key("insert 2", 0, [b'2' as usize, 0, 0]);
-    bench.key("find", 4, [1, 0, 0]);
-    bench.key("delete right to a line beginning", 1, [1, 1, 2]);
-    bench.key("delete right to a line ending", 1, [1, 1, 3]);
-    bench.key("recall", 2, [0; 3]);
-    bench.key("no key", 99, [0; 3]);
+    bench.key("left to a line ending", Key(1, 0, 0, 3));
+    bench.key("right to a line ending", Key(1, 0, 1, 3));
+    bench.key("quote", QUOTE);
+    bench.key("insert 2", insert(b'2'));
+    bench.key("find", FIND);
+    bench.key("delete right to a line beginning", Key(1, 1, 1, 2));
+    bench.key("delete right to a line ending", Key(1, 1, 1, 3));
+    bench.key("recall", RECALL);
+    bench.key("no key", Key(99, 0, 0, 0));
 }

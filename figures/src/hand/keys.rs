@@ -3,7 +3,7 @@
 use super::bytes::allowed;
 use super::places::{distance_left, distance_right, find_left, find_right, Direction, Place};
 use super::texts::Side;
-use crate::numbers::{self, Record};
+use crate::chidukwore::{self, Record};
 
 pub const QUARTER: usize = 256;
 
@@ -45,7 +45,7 @@ fn direction(number: usize) -> Option<Direction> {
 }
 
 /// The key that the numbers name, unless it is refused with KEY.
-pub fn sound_key(numbers::Key(kind, a, b, c): numbers::Key) -> Option<Key> {
+pub fn sound_key(chidukwore::Key(kind, a, b, c): chidukwore::Key) -> Option<Key> {
     use Place::{Character, Document, LineBeginning, LineEnding, Word};
     match kind {
         0 => u8::try_from(a).ok().filter(|&b| allowed(b)).map(|b| Key::Edit(Edit::Insert(b))),

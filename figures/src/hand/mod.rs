@@ -7,7 +7,7 @@ mod places;
 mod texts;
 mod window;
 
-use crate::numbers::{Answer, Key, Record, Reply};
+use crate::chidukwore::{Answer, Key, Record, Reply};
 use bytes::{all_allowed, all_free};
 use keys::{press, sound_key, Full, QUARTER};
 use window::{cursor, follow, paint, visible};

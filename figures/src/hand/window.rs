@@ -2,7 +2,7 @@
 
 use super::bytes::{first_newline, last_newline, newlines};
 use super::keys::QUARTER;
-use crate::numbers::Record;
+use crate::chidukwore::Record;
 
 /// A place in the virtual text: rows from 1, columns from 0.
 pub struct Spot {

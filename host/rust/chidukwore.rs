@@ -1,0 +1,107 @@
+//! The core for hosts in Rust, as include/chidukwore.h declares it for C. Link with libwindow.a.
+
+/// The session record: lengths left and right of a cursor, of both halves of a pair, or alone; then mode, offsets, rows and columns.
+#[repr(C)]
+#[derive(Clone, Copy, Debug, Default, PartialEq, Eq)]
+pub struct Record {
+    pub l: usize,
+    pub r: usize,
+    pub ql: usize,
+    pub qr: usize,
+    pub rl: usize,
+    pub rr: usize,
+    pub qrl: usize,
+    pub qrr: usize,
+    pub xl: usize,
+    pub xr: usize,
+    pub pl: usize,
+    pub mode: usize,
+    pub top: usize,
+    pub left: usize,
+    pub rows: usize,
+    pub columns: usize,
+}
+
+#[repr(C)]
+#[derive(Clone, Copy, Debug, Default, PartialEq, Eq)]
+pub struct Answer {
+    pub code: usize,
+    pub place: usize,
+    pub steps: usize,
+    pub bell: usize,
+    pub first: usize,
+    pub last: usize,
+    pub row: usize,
+    pub column: usize,
+}
+
+#[repr(C)]
+#[derive(Clone, Copy, Debug, Default, PartialEq, Eq)]
+pub struct Reply {
+    pub answer: Answer,
+    pub record: Record,
+}
+
+/// A key: its kind, and what a, b and c say of it.
+#[derive(Clone, Copy, Debug, PartialEq, Eq)]
+pub struct Key(pub usize, pub usize, pub usize, pub usize);
+
+pub const RECALL: Key = Key(2, 0, 0, 0);
+pub const QUOTE: Key = Key(3, 0, 0, 0);
+pub const FIND: Key = Key(4, 1, 0, 0);
+pub const UPFIND: Key = Key(4, 0, 0, 0);
+pub const REPLACE: Key = Key(5, 0, 0, 0);
+
+pub fn insert(b: u8) -> Key {
+    Key(0, b.into(), 0, 0)
+}
+
+/// The four stores that a call is lent.
+pub struct Stores<'a> {
+    pub text: &'a mut [u8],
+    pub recall: &'a mut [u8],
+    pub side: &'a mut [u8],
+    pub screen: &'a mut [u8],
+}
+
+#[rustfmt::skip]
+extern "C" {
+    fn chidukwore_open(
+        n: usize, rows: usize, columns: usize,
+        text: *mut u8, text_length: usize, recall: *mut u8, recall_length: usize,
+        side: *mut u8, side_length: usize, screen: *mut u8, screen_length: usize,
+    ) -> Reply;
+    fn chidukwore_key(
+        record: Record, kind: usize, a: usize, b: usize, c: usize,
+        text: *mut u8, text_length: usize, recall: *mut u8, recall_length: usize,
+        side: *mut u8, side_length: usize, screen: *mut u8, screen_length: usize,
+    ) -> Reply;
+}
+
+/// Opens the first n bytes of the text store.
+#[rustfmt::skip]
+pub fn open(n: usize, rows: usize, columns: usize, lent: Stores) -> Reply {
+    let Stores { text, recall, side, screen } = lent;
+    // Sound: each pointer comes with the length of its own store, and no two stores overlap.
+    unsafe {
+        chidukwore_open(
+            n, rows, columns,
+            text.as_mut_ptr(), text.len(), recall.as_mut_ptr(), recall.len(),
+            side.as_mut_ptr(), side.len(), screen.as_mut_ptr(), screen.len(),
+        )
+    }
+}
+
+/// Presses a key.
+#[rustfmt::skip]
+pub fn key(record: Record, Key(kind, a, b, c): Key, lent: Stores) -> Reply {
+    let Stores { text, recall, side, screen } = lent;
+    // Sound: as above.
+    unsafe {
+        chidukwore_key(
+            record, kind, a, b, c,
+            text.as_mut_ptr(), text.len(), recall.as_mut_ptr(), recall.len(),
+            side.as_mut_ptr(), side.len(), screen.as_mut_ptr(), screen.len(),
+        )
+    }
+}
