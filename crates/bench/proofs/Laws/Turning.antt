@@ -108,7 +108,10 @@ printed-inside does = rw (wrote-length (does .prints)) (omega (arith, does .prin
 abbrev pub turnsLeft : Bool → Turn → ℕ → ℕ
 turnsLeft going t end = cond going (suc (end - t .at)) 0
 
-pub one-fewer : (end : ℕ) (going again : Bool) (t u : Turn) → going ≡ true → Onward t end u → (again ≡ true → u .going ≡ true)
-    → turnsLeft again u end < turnsLeft going t end
-one-fewer end going false t u e on also = rw e (omega arith)
-one-fewer end going true t u e on also = let further = on .further (also refl) in rw e (omega (arith, on .inside, further))
+pub one-fewer : (end : ℕ) (going : Bool) (t u : Turn) → going ≡ true → Onward t end u
+    → turnsLeft (u .going) u end < turnsLeft going t end
+one-fewer end going t u e on = less (u .going) refl
+  where
+    less : (again : Bool) → u .going ≡ again → turnsLeft again u end < turnsLeft going t end
+    less false stops = rw e (omega arith)
+    less true goes = let further = on .further goes in rw e (omega (arith, on .inside, further))

@@ -1,4 +1,5 @@
--- The bound on the number of turns leaves none out: with more turns allowed, the program prints the same.
+-- Turns: the bound on their number leaves none out, so that with more of them allowed the program prints the same; and the promise of a
+-- turn leaves nothing open.
 use mathlib.Core.Path.{_≡_, refl, sym, ap, _∙_}
 use mathlib.Core.Logic.{⊎-elim}
 use mathlib.Core.Bool.{true, false, cond, false≢true}
@@ -10,7 +11,10 @@ use lib.ListN.{length}
 use Rattle.bench.specs.Words.{Header, Headed, Reading, Pressed, Finished, Unknown}
 use Rattle.bench.specs.Script.{headingOf, readingAt}
 use Rattle.gap.proofs.Laws.Tests.{decided}
+use Rattle.gap.proofs.Laws.Writers.{one-written}
 use Rattle.window.specs.Core.{Lent}
+use Rattle.bench.specs.declared.Turn.{Turn}
+use Rattle.bench.specs.Turns.{stateOf, Does}
 use Rattle.bench.specs.Run.{State, Turned, openingTurn, pressedTurn, read, nextTurn, turns}
 use Rattle.bench.proofs.Laws.Scripts.{pressed-goes-on, headed-inside}
 
@@ -67,3 +71,14 @@ all-turns k input h b e =
     let inside = headed-inside input e in
     turns-enough (length input) k input (openingTurn h input b)
     (record { inside = λ going. omega (arith, inside); left = λ going. omega (arith, inside) })
+
+-- Two turns of the code that do the same turn of the definitions are the same: what is left, the stores, and what is printed.
+pub one-turn : {turned : Turned} {t u : Turn} {b c : Lent} {old new other : List ℕ} → Does turned t b old new → Does turned u c old other
+    → (t ≡ u) × (b ≡ c) × (new ≡ other)
+one-turn {turned} {t} {u} {b} {c} v w =
+    let left : stateOf t b ≡ stateOf u c = v .state ∙ sym (w .state) in
+    let printed = one-written (v .prints) (w .prints) in (
+      λ i. record { going = left i .going; at = left i .at; session = left i .session; printed = printed .0 i },
+      λ i. left i .lent,
+      printed .1,
+    )

@@ -1,5 +1,5 @@
 -- `lend` lends the fronts of its arrays, and each is as long as asked.
-use mathlib.Core.Path.{sym}
+use mathlib.Core.Path.{refl, sym, _∙_}
 use lib.Seq.{length-take-le}
 use borrow.Author.Needs.{needs}
 use Rattle.bench.proofs.lend.Statement.{statement}
@@ -33,7 +33,16 @@ slice-aggregate-play-5 : tie.Need-slice-aggregate-play-5
 slice-aggregate-play-5 c = search needs
 
 play-requires : tie.Need-play-requires
-play-requires c κs = search needs
+play-requires c κs =
+    let area = c .before .before .before .before .before .screen-size .ensures in
+    let start = c .before .before .before .before .before .before .before in
+    let store = length-take-le _ _ (start .pre .1) in (
+      start .pre .0,
+      (
+        record { text = store; recall = store; side = refl; screen = length-take-le _ _ (area .1) ∙ area .0 },
+        search needs,
+      ),
+    )
 
 returns : tie.Need-returns
 returns c = search needs

@@ -26,20 +26,20 @@ abbrev μ-loop : tie.MeasureT-loop
 opening-requires : tie.Need-opening-requires Inv-loop μ-loop
 opening-requires c κs = search needs
 
-send-requires : tie.Need-send-requires Inv-loop μ-loop
-send-requires c κs = printed-inside (c .before .before .before .before .before .before .before .before .before .before .before .opening .ensures)
+write-front-requires : tie.Need-write-front-requires Inv-loop μ-loop
+write-front-requires c κs = printed-inside (c .before .before .before .before .before .before .before .before .before .before .before .opening .ensures)
 
 loop-holds : tie.Need-loop-holds Inv-loop μ-loop
-loop-holds c = (opening-inside _ _ _ _ _ _ _ (c .before .before .before .before .before .before .before .before .before .before .before .before .opening .ensures) (c .before .before .before .before .before .before .before .before .before .before .before .before .before .before .before .before .before .before .before .before .before .before .before .before .pre .0), omega (arith, c .before .before .before .before .before .before .before .before .before .before .before .before .opening .kept .1 .1 .1 .1 .1 .1 .0, c .before .before .before .before .before .before .before .before .before .before .before .before .before .before .before .before .before .before .before .before .before .before .before .before .pre .1), refl, refl, refl, refl, refl)
+loop-holds c = (opening-inside _ _ _ _ _ _ _ (c .before .before .before .before .before .before .before .before .before .before .before .before .opening .ensures) (c .before .before .before .before .before .before .before .before .before .before .before .before .before .before .before .before .before .before .before .before .before .before .before .before .pre .0), omega (arith, c .before .before .before .before .before .before .before .before .before .before .before .before .opening .kept .1 .1 .1 .1 .1 .1 .0, c .before .before .before .before .before .before .before .before .before .before .before .before .before .before .before .before .before .before .before .before .before .before .before .before .pre .1 .1), refl, refl, refl, refl, refl)
 
 next-turn-requires : tie.Need-next-turn-requires Inv-loop μ-loop
 next-turn-requires c κs = (c .before .before .before .before .before .before .loop .inv .0, c .before .before .before .before .before .before .loop .inv .1)
 
-send-requires-2 : tie.Need-send-requires-2 Inv-loop μ-loop
-send-requires-2 c κs = printed-inside (c .before .before .before .before .before .before .before .before .before .before .before .next-turn .ensures .0)
+write-front-requires-2 : tie.Need-write-front-requires-2 Inv-loop μ-loop
+write-front-requires-2 c κs = printed-inside (c .before .before .before .before .before .before .before .before .before .before .before .next-turn .ensures .0)
 
 loop-less : tie.Need-loop-less Inv-loop μ-loop
-loop-less c = one-fewer _ _ _ _ _ (c .before .before .before .before .before .before .before .before .before .before .before .before .before .before .before .before .before .before .loop-test .taken) (c .before .before .before .before .before .before .before .before .before .before .before .before .next-turn .ensures .1) (c .send2 .ensures)
+loop-less c = one-fewer _ _ _ _ (c .before .before .before .before .before .before .before .before .before .before .before .before .before .before .before .before .before .before .loop-test .taken) (c .before .before .before .before .before .before .before .before .before .before .before .before .next-turn .ensures .1)
 
 loop-again : tie.Need-loop-again Inv-loop μ-loop
 loop-again c = (
@@ -77,10 +77,10 @@ play-spec =
     Inv-loop
     μ-loop
     opening-requires
-    send-requires
+    write-front-requires
     loop-holds
     next-turn-requires
-    send-requires-2
+    write-front-requires-2
     loop-less
     loop-again
     same-length

@@ -58,3 +58,7 @@ then {at} {p} {q} {xs} {ys} {old} {mid} {new} v w =
       place = end;
       bytes = cuts ∙ rw (patch-cut, ← end, append-assoc (take at old) xs ys);
     }
+
+-- A promise of this kind leaves nothing open: the place behind the run and every byte of the store.
+pub one-written : {at p q : ℕ} {run old new other : List ℕ} → Wrote at run old p new → Wrote at run old q other → (p ≡ q) × (new ≡ other)
+one-written v w = (v .place ∙ sym (w .place), v .bytes ∙ sym (w .bytes))
