@@ -6,9 +6,13 @@ use Rattle.gap.specs.Sequence.{every, part, zeros}
 use Rattle.gap.specs.Doc.{Doc, content}
 use Rattle.gap.specs.Lines.{newline}
 
+-- Bytes that are printed, each in a cell of its own.
+abbrev pub printable : ℕ → Bool
+printable b = leb 32 b && leb b 126
+
 -- Bytes that a text may have: newline, and what is printed. (01, what the core holds: allowed bytes.)
 abbrev pub allowed : ℕ → Bool
-allowed b = eqb b newline || (leb 32 b && leb b 126)
+allowed b = eqb b newline || printable b
 
 -- The byte of a place that no text uses. (01, session: free byte.)
 abbrev pub free : ℕ → Bool

@@ -81,3 +81,13 @@ pub fn put_decimal(n: usize, out: &mut [u8], at: usize) -> usize
     let last = put_decimal(n / 10, out, at);
     put_digit(n % 10, out, last)
 }
+
+// How many digits n has.
+pub fn decimal_size(n: usize) -> usize
+    ensures { λ size. ⌜ size ≡ length (decimal n) ⌝ }
+{
+    if n < 10 {
+        return 1;
+    }
+    decimal_size(n / 10) + 1
+}

@@ -7,7 +7,7 @@ ghost use Prim.Native.Nat.{_+_, _-_, _≤_, _<_};
 ghost use lib.ListN.{length, take, drop, getD};
 ghost use Rattle.gap.specs.Sequence.{every, part};
 ghost use Rattle.gap.specs.Nearest.{nearest};
-ghost use Rattle.gap.specs.Layout.{allowed, free, soundGap, soundPair};
+ghost use Rattle.gap.specs.Layout.{printable, allowed, free, soundGap, soundPair};
 
 // Every byte is allowed in a text.
 pub fn all_allowed(s: &[u8]) -> bool
@@ -45,6 +45,38 @@ pub fn bad_byte(s: &[u8]) -> Search
     while i < s.len() {
         let b = s[i];
         if !((b == 10) | ((32 <= b) & (b <= 126))) {
+            return Search::Reached(i);
+        }
+        i += 1;
+    }
+    Search::Nowhere
+}
+
+// Every byte is one that is printed.
+fn all_printable(s: &[u8]) -> bool
+    ensures { λ r. ⌜ r ≡ every printable (now (s .entry)) ⌝ }
+{
+    let mut ok = true;
+    let mut i = 0;
+    while i < s.len() {
+        let b = s[i];
+        ok = ok & ((32 <= b) & (b <= 126));
+        i += 1;
+    }
+    ok
+}
+
+// The first byte that is not printed. Byte by byte only where there is one.
+pub fn bad_cell(s: &[u8]) -> Search
+    ensures { λ r. ⌜ r ≡ nearest (λ i. not (printable (getD (now (s .entry)) i 0))) (length (now (s .entry))) 0 ⌝ }
+{
+    if all_printable(s) {
+        return Search::Nowhere;
+    }
+    let mut i = 0;
+    while i < s.len() {
+        let b = s[i];
+        if !((32 <= b) & (b <= 126)) {
             return Search::Reached(i);
         }
         i += 1;

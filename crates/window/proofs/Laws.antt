@@ -16,3 +16,5 @@ pub mod Drawing
 pub mod KeyCall
 pub mod HostNumbers
 pub mod OpeningCall
+pub mod Sequences
+pub mod PaintCall

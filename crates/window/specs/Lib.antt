@@ -8,4 +8,8 @@ pub mod Painter
 pub mod Calls
 pub mod Host
 pub mod Terminal
+pub mod Sequences
+pub mod Painting
+pub mod Machine
+pub mod Writing
 pub mod Table

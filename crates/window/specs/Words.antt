@@ -3,7 +3,7 @@ pub use mathlib.Core.List.{List, [], _∷_, _++_, map}
 pub use mathlib.Core.Bool.{Bool, true, false, not, _&&_, _||_, cond}
 pub use Prim.Native.Nat.{ℕ, zero, suc, _+_, _-_, _*_}
 pub use lib.Dec.{eqb, leb, ltb}
-pub use lib.ListN.{length, take, drop, getD}
+pub use lib.ListN.{length, take, drop, getD, set}
 pub use Rattle.gap.specs.declared.Direction.{Direction}
 pub use Rattle.gap.specs.declared.Direction.the-variants.{Left, Right}
 pub use Rattle.gap.specs.declared.Search.{Search}

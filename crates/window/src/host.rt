@@ -1,11 +1,13 @@
-// The host's boundary: the two calls for programs in C or Rust, with record, key and answer as numbers. Nothing is asked of the host
+// The host's boundary: the calls for programs in C or Rust, with record, key and answer as numbers. Nothing is asked of the host
 // beforehand.
 use crate::Frame;
+use crate::PaintAnswer;
 use crate::Reply;
 use crate::Session;
 use crate::calls::open;
 use crate::calls::press;
 use crate::calls::tabled_stores;
+use crate::terminal::paint;
 use editor::Action;
 use editor::Key;
 use editor::Lengths;
@@ -16,6 +18,8 @@ use gap::Direction;
 ghost use mathlib.Core.Path.{_≡_};
 ghost use Rattle.window.specs.Calls.{lent};
 ghost use Rattle.window.specs.Core.{refusal};
+ghost use Rattle.window.specs.Painting.{painting};
+ghost use Rattle.window.specs.Writing.{paintingOf};
 ghost use Rattle.window.specs.Host.{modeOf, sessionFrom, insertFrom, directionFrom, actionFrom, placeFrom, functionFrom};
 ghost use Rattle.window.specs.Host.{findFrom, keyFrom, modeNumber, bit, recordFrom, numbersOf, saidOf, given, hostOpened, hostKeyed};
 
@@ -285,7 +289,7 @@ fn refusal_of(code: usize, n: Record) -> HostReply
     }
 }
 
-// ---- The two calls
+// ---- The calls
 
 // Opens the first n bytes of the text store.
 #[no_mangle]
@@ -337,4 +341,22 @@ pub extern "C" fn chidukwore_key(
         side,
         screen,
     ))
+}
+
+// Writes the bytes that bring a terminal up to date.
+#[no_mangle]
+pub extern "C" fn chidukwore_paint(
+    rows: usize,
+    columns: usize,
+    first: usize,
+    last: usize,
+    row: usize,
+    column: usize,
+    screen: &[u8],
+    buffer: &mut [u8],
+) -> PaintAnswer
+    ensures { λ a. ⌜ paintingOf a (now (buffer .exit))
+        ≡ painting rows columns first last row column (now (screen .entry)) (now (buffer .entry)) ⌝ }
+{
+    paint(rows, columns, first, last, row, column, screen, buffer)
 }

@@ -1,8 +1,11 @@
-// The window layer: the screen, and the core's two calls.
+// The window layer: the screen, the core's two calls, and the bytes for a terminal.
 pub mod calls;
 pub mod cursor;
 pub mod host;
 pub mod painter;
+pub mod sequences;
+pub mod terminal;
+pub mod writer;
 
 use editor::Lengths;
 
@@ -57,4 +60,12 @@ pub struct Answer {
 pub struct Reply {
     pub answer: Answer,
     pub session: Session,
+}
+
+// What the routine for terminals answers: 0 or a refusal, the place of TEXT, and how many bytes it wrote.
+#[repr(C)]
+pub struct PaintAnswer {
+    pub code: usize,
+    pub place: usize,
+    pub count: usize,
 }

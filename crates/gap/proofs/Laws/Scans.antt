@@ -1,6 +1,6 @@
 -- Laws of loops that go through a text byte by byte, or through numbers one by one: what is left decides.
 use mathlib.Core.Path.{_≡_, refl, sym, ap, _∙_}
-use mathlib.Core.Bool.{Bool, true, false, _&&_, cond, and-true, and-assoc}
+use mathlib.Core.Bool.{Bool, true, false, not, _&&_, cond, and-true, and-assoc}
 use mathlib.Core.List.{List}
 use Prim.Native.Nat.{ℕ, zero, suc, _+_, _-_, _≤_, _<_}
 use native.Mathlib.Numerals.{add-one}
@@ -11,6 +11,8 @@ use Rattle.gap.specs.declared.Search.the-variants.{Reached, Nowhere}
 use Rattle.gap.specs.Sequence.{every}
 use Rattle.gap.specs.Nearest.{nearest}
 use Rattle.gap.proofs.Laws.Tests.{cond-true, cond-false}
+use Rattle.gap.proofs.Laws.Sequence.{every-at}
+use Rattle.gap.proofs.Laws.Nearest.{none-nowhere}
 
 -- ok tells whether the first i bytes of s pass the test, and those from i on decide the rest.
 pub record Tested (test : ℕ → Bool) (s : List ℕ) (ok : Bool) (i : ℕ) : Type 0 where
@@ -60,3 +62,9 @@ module _ (test : ℕ → Bool) (n k : ℕ) where
     pub scan-none : k + n ≤ d → Nowhere ≡ nearest test n k
     unfolding nearest
     scan-none end = let none : k + n - d ≡ 0 = omega arith in sym (so-far .rest ∙ ap (λ m. nearest test m d) none)
+
+-- Where every byte of a text passes, none is the first that does not.
+pub every-nowhere : (test : ℕ → Bool) (s : List ℕ) → every test s ≡ true
+    → Nowhere ≡ nearest (λ i. not (test (getD s i 0))) (length s) 0
+every-nowhere test s all =
+    sym (none-nowhere (λ i. not (test (getD s i 0))) (length s) 0 (λ j low high. ap not (every-at test s j all (omega arith))))

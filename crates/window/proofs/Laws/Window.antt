@@ -12,7 +12,7 @@ use borrow.Author.Tests.{ltb-true, ltb-false, leb-true, leb-false, lt-ltb, le-lt
 use Rattle.gap.specs.Sequence.{every, counted}
 use Rattle.gap.specs.Doc.{Doc, content}
 use Rattle.gap.specs.Lines.{lines}
-use Rattle.gap.specs.Layout.{allowed}
+use Rattle.gap.specs.Layout.{printable, allowed}
 use Rattle.gap.proofs.Laws.Tests.{and-left, and-right, and-both}
 use Rattle.gap.proofs.Laws.Lines.{lines-every}
 use Rattle.gap.proofs.Laws.Sequence.{every-both, every-left, every-right, length-counted}
@@ -119,10 +119,6 @@ policy-keeps f d e =
     let row : policyRow f (rowOf d) ≡ f .r = rw (lt-leb _ _ (v .top), le-ltb _ _ (v .bottom)) in
     let column : policyColumn f (columnOf d) ≡ f .c = rw (le-ltb _ _ (v .left), le-ltb _ _ (v .right)) in
     λ i. record { r = row i; c = column i; h = f .h; w = f .w }
-
--- Bytes that a screen shows as one character.
-abbrev pub printable : ℕ → Bool
-printable b = leb 32 b && leb b 126
 
 module _ (test : ℕ → Bool) where
   every-or : (s : List ℕ) (i e : ℕ) → every test s ≡ true → test e ≡ true → test (getD s i e) ≡ true

@@ -6,6 +6,7 @@ use mathlib.Core.List.{List, [], _∷_}
 use Prim.Native.Nat.{ℕ}
 use lib.ListN.{take}
 use Rattle.gap.specs.Sequence.{every}
+use Rattle.gap.specs.Layout.{printable}
 use Rattle.editor.specs.declared.Key.{Key}
 use Rattle.editor.specs.Plain.{Outcome, refused, done, opening}
 use Rattle.editor.specs.Keys.{key, keys, after}
@@ -14,7 +15,7 @@ use Rattle.window.specs.Words.{Session}
 use Rattle.window.specs.Window.{virtual, window, policy}
 use Rattle.window.specs.Core.{Lent, T, tabled, held, isSession, lentOf, openedText, opened, finished, shown, keyed}
 use Rattle.window.specs.Terminal.{Bench, View, openedBench, openingView, given, repaint, struck, typed, looked, viewed, picture}
-use Rattle.window.proofs.Laws.Window.{length-window, printable, window-printable, virtual-allowed}
+use Rattle.window.proofs.Laws.Window.{length-window, window-printable, virtual-allowed}
 use Rattle.window.proofs.Laws.Rows.{repainted}
 use Rattle.window.proofs.Laws.Views.{tabled-facts, Good, recordOf, storesWith, view-keyed, view-size, looked-good}
 use Rattle.window.proofs.Theorems.Refusals.{opening-done}

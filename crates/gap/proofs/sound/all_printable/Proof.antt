@@ -1,0 +1,37 @@
+-- `sound::all_printable` meets its contract: the flag tells whether the bytes passed are printed, and what is left decides.
+use Prim.Native.Nat.{_-_}
+use native.Mathlib.Omega.{arith}
+use lib.ListN.{length}
+use Rattle.gap.specs.Layout.{printable}
+use Rattle.gap.proofs.Laws.Scans.{Tested, tested-start, tested-more, tested-all}
+use Rattle.gap.proofs.sound.all_printable.Statement.{statement}
+use Rattle.gap.proofs.sound.all_printable.Tie as tie
+
+abbrev Inv-loop : tie.InvT-loop
+Inv-loop s ok₀ i₀ ok i = Tested printable s ok i
+
+abbrev μ-loop : tie.MeasureT-loop
+μ-loop s ok₀ i₀ ok i = length s - i
+
+loop-holds : tie.Need-loop-holds Inv-loop μ-loop
+loop-holds c = tested-start printable _
+
+shared-slice-read-b : tie.Need-shared-slice-read-b Inv-loop μ-loop
+shared-slice-read-b c = omega arith
+
+add-i : tie.Need-add-i Inv-loop μ-loop
+add-i c = omega arith
+
+loop-less : tie.Need-loop-less Inv-loop μ-loop
+loop-less c = omega arith
+
+loop-again : tie.Need-loop-again Inv-loop μ-loop
+loop-again c = tested-more printable _ _ _ (c .before .before .loop .inv) (c .before .loop-test .taken)
+
+returns : tie.Need-returns Inv-loop μ-loop
+returns c = tested-all printable _ _ _ (c .before .loop .inv) (c .loop-test .left)
+
+pub all-printable-spec : {M : Type 1} → statement M
+all-printable-spec =
+    tie.close
+    (tie.spec Inv-loop μ-loop loop-holds shared-slice-read-b add-i loop-less loop-again returns)

@@ -1,0 +1,171 @@
+-- The call that writes bytes for a terminal: what its tests refuse, and what it writes.
+use mathlib.Core.Path.{_≡_, refl, sym, ap, _∙_}
+use mathlib.Core.Logic.{⊎-elim}
+use mathlib.Core.Bool.{Bool, true, false, not, _&&_}
+use mathlib.Core.List.{List, _++_}
+use Prim.Native.Nat.{ℕ, _+_, _*_, _≤_, _<_}
+use native.Mathlib.Nat.{mul-le-mul-right}
+use native.Mathlib.Omega.{arith}
+use lib.Dec.{eqb, leb, ltb}
+use lib.ListN.{length}
+use borrow.Author.Tests.{eqb-true, leb-true, le-leb, lt-leb, not-true, not-false, ltb-true}
+use Rattle.gap.specs.declared.Search.{Search}
+use Rattle.gap.specs.declared.Search.the-variants.{Reached, Nowhere}
+use Rattle.gap.specs.Sequence.{patch}
+use Rattle.gap.specs.Written.{Wrote}
+use Rattle.gap.proofs.Laws.Tests.{decided, and-left, and-right, or-cases, cond-true, cond-false}
+use Rattle.editor.specs.Plain.{SIZE, TEXT}
+use Rattle.window.specs.declared.PaintAnswer.{PaintAnswer}
+use Rattle.window.specs.Core.{rowsAndColumns}
+use Rattle.window.specs.Sequences.{placed, namedRows, sentRows, sentColumn, painted}
+use Rattle.window.specs.Painting.{Painting, ROOM, rowsOn, cursorOn, paintable, badCell, paintedInto, unlessBadCell, painting}
+use Rattle.window.specs.Writing.{RowsIn, paintedSize, paintingOf}
+use Rattle.window.proofs.Laws.Sequences.{cursor-place-short, named-most, rows-most, painted-size}
+
+-- ---- SIZE
+
+module _ (H W first last row column : ℕ) (screen : List ℕ) where
+  -- H and W are tested first.
+  pub not-paintable : rowsAndColumns H W ≡ false → false ≡ paintable H W first last row column screen
+  unfolding paintable
+  not-paintable bad =
+      sym (ap (λ t. (t && eqb (length screen) (H * W)) && (rowsOn H first last && cursorOn H W row column)) bad)
+
+  pub paintable-so : {rows cursor : Bool} → rowsAndColumns H W ≡ true → rows ≡ rowsOn H first last → cursor ≡ cursorOn H W row column
+      → (eqb (length screen) (H * W) && (rows && cursor)) ≡ paintable H W first last row column screen
+  unfolding paintable
+  paintable-so good rows-so cursor-so = rw (rows-so, cursor-so, good)
+
+-- What the test tells of the numbers.
+pub record Paintable (H W first last row column : ℕ) (screen : List ℕ) : Type 0 where
+  pub tall : H ≤ 64
+  pub wide : W ≤ 256
+  pub long : length screen ≡ H * W
+  pub ordered : first ≤ last
+  pub high : last ≤ H
+  pub bottom : row ≤ H
+  pub edge : column ≤ W
+
+-- Rows in their order, or 0 and 0, which are too.
+rows-told : (H first last : ℕ) → rowsOn H first last ≡ true → (first ≤ last) × (last ≤ H)
+rows-told H first last e =
+    ⊎-elim
+    (λ none.
+    let no-first = eqb-true first 0 (and-left (eqb first 0) _ none) in
+    let no-last = eqb-true last 0 (and-right (eqb first 0) _ none) in
+    omega arith)
+    (λ run. let behind = and-right (leb 1 first) _ run in
+    (leb-true first last (and-left (leb first last) _ behind), leb-true last H (and-right (leb first last) _ behind)))
+    (or-cases (eqb first 0 && eqb last 0) _ e)
+
+-- The column that is sent is one of the screen's.
+column-sent : (W column : ℕ) → column ≤ W → sentColumn W column ≤ W
+column-sent W column edge =
+    ⊎-elim
+    (λ inside. rw (cond-true (column + 1) W inside) (omega (arith, ltb-true column W inside)))
+    (λ behind. rw (cond-false (column + 1) W behind) (omega arith))
+    (decided (ltb column W))
+
+module _ (H W first last row column : ℕ) (screen : List ℕ) (e : paintable H W first last row column screen ≡ true) where
+  pub paintable-facts : Paintable H W first last row column screen
+  unfolding paintable
+  paintable-facts =
+      let sizes = and-left (rowsAndColumns H W && eqb (length screen) (H * W)) _ e in
+      let places = and-right (rowsAndColumns H W && eqb (length screen) (H * W)) _ e in
+      let frame = and-left (rowsAndColumns H W) _ sizes in
+      let columns = and-right (leb 1 H && leb H 64) _ frame in
+      let rows = rows-told H first last (and-left (rowsOn H first last) _ places) in
+      let cursor = and-right (leb 1 row) _ (and-right (rowsOn H first last) _ places) in
+      record {
+        tall = leb-true H 64 (and-right (leb 1 H) _ (and-left (leb 1 H && leb H 64) _ frame));
+        wide = leb-true W 256 (and-right (leb 1 W) _ columns);
+        long = eqb-true _ _ (and-right (rowsAndColumns H W) _ sizes);
+        ordered = rows .0;
+        high = rows .1;
+        bottom = leb-true row H (and-left (leb row H) _ cursor);
+        edge = leb-true column W (and-right (leb row H) _ cursor);
+      }
+
+  -- What the functions that count and write ask of the rows.
+  pub rows-in : RowsIn W first last screen
+  rows-in =
+      let facts = paintable-facts in
+      record {
+        ordered = facts .ordered;
+        few = omega arith;
+        wide = facts .wide;
+        inside = omega (arith, facts .long, mul-le-mul-right W (facts .high));
+      }
+
+  -- A buffer that is always large enough: for a row its W cells and 7 bytes for its place, and 9 for the cursor's.
+  pub enough : length (painted W first last row column screen) ≤ H * (W + 7) + 9
+  unfolding paintedSize
+  enough =
+      let facts = paintable-facts in
+      let few : namedRows first last ≤ H = omega (arith, named-most first last) in
+      let rows = rows-most W first last (facts .ordered) (omega arith) refl (namedRows first last) (omega arith) in
+      let place = cursor-place-short row (sentColumn W column) (omega arith) (omega (arith, column-sent W column (facts .edge))) in
+      omega (arith, painted-size row column rows-in, mul-le-mul-right (W + 7) few)
+
+-- ---- ROOM
+
+-- The size is counted before a byte is written, and decides.
+module _ (W first last row column : ℕ) (screen buffer : List ℕ) (rows : RowsIn W first last screen)
+    {size : ℕ} (sized : size ≡ paintedSize W first last row column) where
+  abbrev run : List ℕ
+  run = painted W first last row column screen
+
+  counted-so : size ≡ length run
+  counted-so = sized ∙ sym (painted-size row column rows)
+
+  pub room-refused : {a : PaintAnswer} → length buffer < size → a ≡ record { code = ROOM; place = 0; count = 0 }
+      → paintingOf a buffer ≡ paintedInto run buffer
+  room-refused over e =
+      ap (λ b. paintingOf b buffer) e ∙ sym (cond-false _ _ (lt-leb (length run) (length buffer) (omega (arith, counted-so))))
+
+  module _ (fits : size ≤ length buffer) {sent : ℕ} (column-so : sent ≡ sentColumn W column) where
+    same-run : run ≡ sentRows W first last screen ++ placed row sent
+    unfolding painted
+    same-run = rw column-so
+
+    pub room-enough : length (sentRows W first last screen ++ placed row sent) ≤ length buffer
+    room-enough = rw same-run at (rw counted-so at fits)
+
+    pub all-written : {count : ℕ} {new : List ℕ} → Wrote 0 (sentRows W first last screen ++ placed row sent) buffer count new
+        → paintingOf (record { code = 0; place = 0; count = count }) new ≡ paintedInto run buffer
+    all-written {count} {new} wrote =
+        let counts : count ≡ length run = wrote .place ∙ omega (arith, ap length same-run) in
+        let bytes : new ≡ patch 0 run buffer = rw same-run (wrote .bytes) in
+        (λ i. record { code = 0; place = 0; count = counts i; buffer = bytes i })
+        ∙ sym (cond-true _ _ (le-leb (length run) (length buffer) (omega (arith, counted-so))))
+
+-- ---- The tests in their order
+
+-- Sizes that pass the test let the rows be written.
+pub rows-pass : (H W first last row column : ℕ) (screen : List ℕ) {ok : Bool} → ok ≡ paintable H W first last row column screen
+    → not ok ≡ false → RowsIn W first last screen
+rows-pass H W first last row column screen known passed =
+    rows-in H W first last row column screen (sym known ∙ not-false _ passed)
+
+module _ (H W first last row column : ℕ) (screen buffer : List ℕ) {ok : Bool} (known : ok ≡ paintable H W first last row column screen) where
+  pub size-refused : {a : PaintAnswer} → not ok ≡ true → a ≡ record { code = SIZE; place = 0; count = 0 }
+      → paintingOf a buffer ≡ painting H W first last row column screen buffer
+  unfolding painting
+  size-refused bad e = ap (λ b. paintingOf b buffer) e ∙ sym (cond-false _ _ (sym known ∙ not-true _ bad))
+
+  -- What follows on the search for a byte that is not printed.
+  abbrev after : Search → Painting
+  after s = unlessBadCell s buffer (paintedInto (painted W first last row column screen) buffer)
+
+  module _ (passed : not ok ≡ false) {found : Search} (search : found ≡ badCell screen) where
+    cells-decide : painting H W first last row column screen buffer ≡ after found
+    unfolding painting
+    cells-decide = cond-true _ _ (sym known ∙ not-false _ passed) ∙ ap after (sym search)
+
+    pub text-refused : {a : PaintAnswer} (i : ℕ) → found ≡ Reached i → a ≡ record { code = TEXT; place = i; count = 0 }
+        → paintingOf a buffer ≡ painting H W first last row column screen buffer
+    text-refused i there e = ap (λ b. paintingOf b buffer) e ∙ sym (cells-decide ∙ ap after there)
+
+    pub cells-printed : found ≡ Nowhere
+        → paintedInto (painted W first last row column screen) buffer ≡ painting H W first last row column screen buffer
+    cells-printed none = sym (cells-decide ∙ ap after none)

@@ -1,0 +1,30 @@
+-- `painted_size` adds the sizes of the named rows and of the cursor's place.
+use native.Mathlib.Omega.{arith}
+use borrow.Author.Needs.{needs}
+use Rattle.window.proofs.Laws.Sequences.{place-short, named-small, painted-sum}
+use Rattle.window.proofs.sequences.painted_size.Statement.{statement}
+use Rattle.window.proofs.sequences.painted_size.Tie as tie
+
+rows-size-requires : tie.Need-rows-size-requires
+rows-size-requires c κs = search needs
+
+sent-column-requires : tie.Need-sent-column-requires
+sent-column-requires c κs = search needs
+
+place-size-requires : tie.Need-place-size-requires
+place-size-requires c κs = search needs
+
+add-result : tie.Need-add-result
+add-result c =
+    let start = c .before .before .before in
+    let rows = named-small (start .args .w) (start .args .first) (start .args .last) (start .pre .0) (start .pre .1) (start .pre .2) in
+    let place = place-short (start .args .row) (c .before .sent-column .result) (search needs) (search needs) in
+    record { fits = omega (arith, rows, place, c .before .before .rows-size .ensures, c .place-size .ensures) }
+
+returns : tie.Need-returns
+returns c = painted-sum _ _ _ _ _ (c .before .before .rows-size .ensures) (c .place-size .ensures) (c .before .sent-column .ensures)
+
+pub painted-size-spec : {M : Type 1} → statement M
+painted-size-spec =
+    tie.close
+    (tie.spec rows-size-requires sent-column-requires place-size-requires add-result returns)

@@ -1,0 +1,69 @@
+-- `put_rows` writes the named rows, one a turn: before turn i, the first i are written.
+use Prim.Native.Nat.{_-_}
+use native.Mathlib.Omega.{arith}
+use borrow.Author.Needs.{needs}
+use Rattle.gap.proofs.Laws.Writers.{wrote-length}
+use Rattle.window.specs.Sequences.{sentRows}
+use Rattle.window.proofs.Laws.Sequences.{RowsSent, row-inside, row-few, sent-none, sent-room, sent-more, sent-all}
+use Rattle.window.proofs.sequences.put_rows.Statement.{statement}
+use Rattle.window.proofs.sequences.put_rows.Tie as tie
+
+abbrev Inv-loop : tie.InvT-loop
+Inv-loop w first last screen out₀ at rows next₀ i₀ out next i = RowsSent w first rows screen out₀ at i next out
+
+abbrev μ-loop : tie.MeasureT-loop
+μ-loop w first last screen out₀ at rows next₀ i₀ out next i = rows - i
+
+named-rows-requires : tie.Need-named-rows-requires Inv-loop μ-loop
+named-rows-requires c κs = search needs
+
+loop-holds : tie.Need-loop-holds Inv-loop μ-loop
+loop-holds c = sent-none (omega (arith, c .before .before .before .pre .1))
+
+add-put-row : tie.Need-add-put-row Inv-loop μ-loop
+add-put-row c =
+    let counted = c .before .before in
+    record { fits = omega (arith, row-few (counted .before .before .before .pre .0) (counted .named-rows .ensures) (c .loop-test .taken)) }
+
+put-row-requires : tie.Need-put-row-requires Inv-loop μ-loop
+unfolding sentRows
+put-row-requires c κs =
+    let turn = c .before in
+    let counted = turn .before .before in
+    let asked = counted .before .before .before .pre in (
+      row-inside (asked .0) (counted .named-rows .ensures) (turn .loop-test .taken),
+      sent-room (turn .before .loop .inv) (turn .loop-test .taken) (rw (counted .named-rows .ensures) (asked .1)),
+    )
+
+add-i : tie.Need-add-i Inv-loop μ-loop
+add-i c = search needs
+
+loop-less : tie.Need-loop-less Inv-loop μ-loop
+loop-less c = omega arith
+
+loop-again : tie.Need-loop-again Inv-loop μ-loop
+loop-again c =
+    let turn = c .before .before .before .before in sent-more (turn .before .loop .inv) (turn .loop-test .taken) (c .before .before .put-row .ensures)
+
+same-length : tie.Need-same-length Inv-loop μ-loop
+same-length c = wrote-length (c .before .loop .inv .wrote)
+
+returns : tie.Need-returns Inv-loop μ-loop
+unfolding sentRows
+returns c = rw (c .before .before .named-rows .ensures) at (sent-all (c .before .loop .inv) (c .loop-test .left))
+
+pub put-rows-spec : {M : Type 1} → statement M
+put-rows-spec =
+    tie.close
+    (tie.spec
+    Inv-loop
+    μ-loop
+    named-rows-requires
+    loop-holds
+    add-put-row
+    put-row-requires
+    add-i
+    loop-less
+    loop-again
+    same-length
+    returns)

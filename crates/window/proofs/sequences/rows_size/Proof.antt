@@ -1,0 +1,85 @@
+-- `rows_size` adds the sizes of the named rows, one a turn: before turn i, those of the first i.
+use mathlib.Core.Path.{_≡_, refl}
+use Prim.Native.Nat.{_-_, _≤_}
+use native.Mathlib.Omega.{arith}
+use borrow.Author.Needs.{needs}
+use Rattle.window.specs.Writing.{rowsSize}
+use Rattle.window.proofs.Laws.Sequences.{named-row, place-small, rows-small, size-more, size-all}
+use Rattle.window.proofs.sequences.rows_size.Statement.{statement}
+use Rattle.window.proofs.sequences.rows_size.Tie as tie
+
+abbrev Inv-loop : tie.InvT-loop
+Inv-loop w first last rows size₀ i₀ size i = (i ≤ rows) × (size ≡ rowsSize w i first)
+
+abbrev μ-loop : tie.MeasureT-loop
+μ-loop w first last rows size₀ i₀ size i = rows - i
+
+named-rows-requires : tie.Need-named-rows-requires Inv-loop μ-loop
+named-rows-requires c κs = search needs
+
+loop-holds : tie.Need-loop-holds Inv-loop μ-loop
+unfolding rowsSize
+loop-holds c = (omega arith, refl)
+
+add-place-size : tie.Need-add-place-size Inv-loop μ-loop
+add-place-size c =
+    let counted = c .before .before in
+    let start = counted .before in
+    record {
+      fits = omega (arith, named-row (start .args .first) (start .args .last) (counted .named-rows .ensures) (c .loop-test .taken));
+    }
+
+place-size-requires : tie.Need-place-size-requires Inv-loop μ-loop
+place-size-requires c κs = search needs
+
+-- What a turn adds, but for the cells.
+place-is-small : (c : tie.After-place-size Inv-loop μ-loop) → c .place-size .result ≤ 7
+place-is-small c =
+    let counted = c .before .before .before in
+    let start = counted .before in
+    place-small (start .args .w) (start .args .first) (start .args .last) (start .pre .0) (start .pre .1)
+    (counted .named-rows .ensures) (c .before .loop-test .taken) (c .place-size .ensures)
+
+add-size : tie.Need-add-size Inv-loop μ-loop
+add-size c = record { fits = omega (arith, place-is-small c) }
+
+add-size-2 : tie.Need-add-size-2 Inv-loop μ-loop
+add-size-2 c =
+    let turn = c .before .before in
+    let counted = turn .before in
+    let start = counted .before in
+    let so-far = rows-small (start .args .w) (start .args .first) (start .args .last) (start .pre .0) (start .pre .1)
+    (counted .named-rows .ensures) (turn .loop .i) (turn .loop .inv .0) (start .pre .2)
+    in record { fits = omega (arith, place-is-small c, so-far, turn .loop .inv .1) }
+
+add-i : tie.Need-add-i Inv-loop μ-loop
+add-i c = search needs
+
+loop-less : tie.Need-loop-less Inv-loop μ-loop
+loop-less c = omega arith
+
+loop-again : tie.Need-loop-again Inv-loop μ-loop
+loop-again c = (omega arith, size-more _ _ _ (c .before .before .loop .inv .1) (c .place-size .ensures))
+
+returns : tie.Need-returns Inv-loop μ-loop
+returns c =
+    let turn = c .before in
+    let all = size-all _ _ (turn .loop .inv .1) (turn .loop .inv .0) (c .loop-test .left) in
+    rw (turn .before .named-rows .ensures) at all
+
+pub rows-size-spec : {M : Type 1} → statement M
+rows-size-spec =
+    tie.close
+    (tie.spec
+    Inv-loop
+    μ-loop
+    named-rows-requires
+    loop-holds
+    add-place-size
+    place-size-requires
+    add-size
+    add-size-2
+    add-i
+    loop-less
+    loop-again
+    returns)

@@ -1,0 +1,113 @@
+-- A simple terminal as a machine over bytes, and a bench with such a terminal at the end of a line. (02, M-100: a simple terminal.)
+use Rattle.window.specs.Words.{List, [], _∷_, Bool, cond, ℕ, suc, _+_, _-_, _*_, eqb, leb, ltb, length, take, set, Key}
+use Rattle.gap.specs.Decimal.{digit, worth}
+use Rattle.gap.specs.Layout.{printable}
+use Rattle.window.specs.Window.{virtual, rowOf, columnOf}
+use Rattle.window.specs.Core.{Lent, Called, opened, keyed}
+use Rattle.window.specs.Terminal.{View, picture}
+use Rattle.window.specs.Sequences.{sentColumn}
+use Rattle.window.specs.Painting.{Painting, painting}
+
+-- ---- The machine
+
+-- What it is reading: bytes to show, or a sequence of which it has ESC, or ESC `[` and digits, or these, `;` and digits.
+pub data Reading : Type 0 where
+  cells : Reading
+  escape : Reading
+  rowNumber : ℕ → Reading
+  columnNumber : ℕ → ℕ → Reading
+
+-- The cells that it shows, row by row, and where the next one goes, rows and columns from 1.
+pub record Machine : Type 0 where
+  pub shows : List ℕ
+  pub row : ℕ
+  pub column : ℕ
+  pub reading : Reading
+
+abbrev pub reads : Machine → Reading → Machine
+reads m r = record { shows = m .shows; row = m .row; column = m .column; reading = r }
+
+-- A byte that is printed goes into the cell, and the next goes right of it; at the last column the place stays, so that it neither
+-- wraps nor scrolls. Any other byte but ESC does nothing.
+abbrev pub shown : ℕ → ℕ → Machine → Machine
+shown W b m =
+    record {
+      shows = set (m .shows) ((m .row - 1) * W + (m .column - 1)) b;
+      row = m .row;
+      column = cond (ltb (m .column) W) (suc (m .column)) W;
+      reading = cells;
+    }
+
+abbrev pub cellRead : ℕ → ℕ → Machine → Machine
+cellRead W b m = cond (eqb b 27) (reads m escape) (cond (printable b) (shown W b m) m)
+
+-- A place that is off the screen becomes the nearest that is on it.
+abbrev pub within : ℕ → ℕ → ℕ
+within most n = cond (eqb n 0) 1 (cond (leb n most) n most)
+
+abbrev pub goes : ℕ → ℕ → ℕ → ℕ → Machine → Machine
+goes H W row column m = record { shows = m .shows; row = within H row; column = within W column; reading = cells }
+
+-- One byte. A sequence that is none of these is dropped with the byte that shows it.
+unfoldable pub step : ℕ → ℕ → Reading → ℕ → Machine → Machine
+step H W cells b m = cellRead W b m
+step H W escape b m = reads m (cond (eqb b 91) (rowNumber 0) cells)
+step H W (rowNumber row) b m =
+    reads m (cond (digit b) (rowNumber (row * 10 + worth b)) (cond (eqb b 59) (columnNumber row 0) cells))
+step H W (columnNumber row column) b m =
+    cond (digit b) (reads m (columnNumber row (column * 10 + worth b)))
+    (cond (eqb b 72) (goes H W row column m) (reads m cells))
+
+-- A run of bytes.
+unfoldable pub feed : ℕ → ℕ → List ℕ → Machine → Machine
+feed H W [] m = m
+feed H W (b ∷ run) m = feed H W run (step H W (m .reading) b m)
+
+-- ---- A bench with a line
+
+-- What the last call gave, the host's buffer, and the terminal at the end of the line.
+pub record Line : Type 0 where
+  pub called : Called
+  pub buffer : List ℕ
+  pub terminal : Machine
+
+-- After a call the routine is asked for the bytes, whatever the answer was, and as many as it counts go to the terminal.
+abbrev pub bytesAfter : Called → List ℕ → Painting
+bytesAfter o buffer =
+    painting (o .session .frame .h) (o .session .frame .w) (o .answer .first) (o .answer .last) (o .answer .row) (o .answer .column)
+    (o .lent .screen) buffer
+
+abbrev pub sent : Called → Painting → Machine → Line
+sent o p m =
+    record {
+      called = o;
+      buffer = p .buffer;
+      terminal = feed (o .session .frame .h) (o .session .frame .w) (take (p .count) (p .buffer)) m;
+    }
+
+-- Opening names every row, so that the terminal is given the full screen.
+unfoldable pub openedLine : ℕ → ℕ → ℕ → Lent → List ℕ → Machine → Line
+openedLine n H W b buffer m = let o = opened n H W b in sent o (bytesAfter o buffer) m
+
+-- A key is called with record and stores as they came back, and the buffer is lent again as it was left.
+unfoldable pub struckLine : Key → Line → Line
+struckLine k at = let o = keyed (at .called .session) k (at .called .lent) in sent o (bytesAfter o (at .buffer)) (at .terminal)
+
+unfoldable pub typedLine : List Key → Line → Line
+typedLine [] at = at
+typedLine (k ∷ ks) at = typedLine ks (struckLine k at)
+
+-- What it should show: the window of the plain document, with the cursor as a call reports it, its column plus 1, or W.
+abbrev pub showing : View → Machine
+showing v =
+    let d = virtual (v .plain) in
+    record {
+      shows = picture v;
+      row = rowOf d - v .frame .r;
+      column = sentColumn (v .frame .w) (columnOf d - v .frame .c);
+      reading = cells;
+    }
+
+-- A buffer in which there is always room: for a row's place 7 bytes, for the cursor's 9.
+abbrev pub enough : ℕ → ℕ → ℕ
+enough H W = H * (W + 7) + 9

@@ -1,0 +1,25 @@
+-- How the promises of the functions that write for a terminal speak.
+use Prim.Native.Nat.{_≤_}
+use Rattle.window.specs.Words.{List, ℕ, zero, suc, _+_, _*_, length}
+use Rattle.window.specs.declared.PaintAnswer.{PaintAnswer}
+use Rattle.window.specs.Sequences.{placed, namedRows, sentColumn}
+use Rattle.window.specs.Painting.{Painting}
+
+-- The named rows, in their order or none, are rows of a screen that is no larger than tabled.
+pub record RowsIn (W first last : ℕ) (screen : List ℕ) : Type 0 where
+  pub ordered : first ≤ last
+  pub few : last ≤ 64
+  pub wide : W ≤ 256
+  pub inside : last * W ≤ length screen
+
+-- How long the bytes are, without a look at the screen: n rows from row i on, and all of them.
+unfoldable pub rowsSize : ℕ → ℕ → ℕ → ℕ
+rowsSize W zero i = 0
+rowsSize W (suc n) i = (length (placed i 1) + W) + rowsSize W n (suc i)
+
+unfoldable pub paintedSize : ℕ → ℕ → ℕ → ℕ → ℕ → ℕ
+paintedSize W first last row column = rowsSize W (namedRows first last) first + length (placed row (sentColumn W column))
+
+-- The answer and the buffer as one value.
+abbrev pub paintingOf : PaintAnswer → List ℕ → Painting
+paintingOf a buffer = record { code = a .code; place = a .place; count = a .count; buffer = buffer }

@@ -1,0 +1,109 @@
+// Sequences of ECMA-48 written into a lent buffer at a given place, and how long they are.
+use gap::decimals::decimal_size;
+use gap::decimals::put_decimal;
+use gap::writers::put;
+ghost use mathlib.Core.Path.{_≡_};
+ghost use Prim.Native.Nat.{_+_, _*_, _≤_, _<_};
+ghost use lib.ListN.{length};
+ghost use Rattle.gap.specs.Written.{Wrote};
+ghost use Rattle.window.specs.Sequences.{placed, sentRow, sentRows, namedRows, sentColumn};
+ghost use Rattle.window.specs.Writing.{RowsIn, rowsSize, paintedSize};
+
+// ---- How long
+
+pub fn place_size(row: usize, column: usize) -> usize
+    ensures { λ n. ⌜ n ≡ length (placed row column) ⌝ }
+{
+    4 + decimal_size(row) + decimal_size(column)
+}
+
+// How many rows are named.
+fn named_rows(first: usize, last: usize) -> usize
+    requires { ⌜ (first ≤ last) × (last ≤ 64) ⌝ }
+    ensures { λ n. ⌜ n ≡ namedRows first last ⌝ }
+{
+    if first == 0 {
+        return 0;
+    }
+    last + 1 - first
+}
+
+// All named rows. At most 64 of at most 256 cells, so that no sum can wrap.
+fn rows_size(w: usize, first: usize, last: usize) -> usize
+    requires { ⌜ (first ≤ last) × (last ≤ 64) × (w ≤ 256) ⌝ }
+    ensures { λ n. ⌜ n ≡ rowsSize w (namedRows first last) first ⌝ }
+{
+    let rows = named_rows(first, last);
+    let mut size = 0;
+    let mut i = 0;
+    while i < rows {
+        size += place_size(first + i, 1) + w;
+        i += 1;
+    }
+    size
+}
+
+// The column that is sent for the cursor's.
+pub fn sent_column(w: usize, column: usize) -> usize
+    ensures { λ c. ⌜ c ≡ sentColumn w column ⌝ }
+{
+    if column < w {
+        return column + 1;
+    }
+    w
+}
+
+// The named rows and the cursor's place.
+pub fn painted_size(w: usize, first: usize, last: usize, row: usize, column: usize) -> usize
+    requires { ⌜ (first ≤ last) × (last ≤ 64) × (w ≤ 256) ⌝ }
+    ensures { λ n. ⌜ n ≡ paintedSize w first last row column ⌝ }
+{
+    rows_size(w, first, last) + place_size(row, sent_column(w, column))
+}
+
+// ---- Written
+
+pub fn put_place(row: usize, column: usize, out: &mut [u8], at: usize) -> usize
+    requires { ⌜ at + length (placed row column) ≤ length (now out) ⌝ }
+    ensures { λ next. ⌜ Wrote at (placed row column) (now (out .entry)) next (now (out .exit)) ⌝ }
+{
+    let row_at = put(b"\x1b[", out, at);
+    let row_end = put_decimal(row, out, row_at);
+    let column_at = put(b";", out, row_end);
+    let column_end = put_decimal(column, out, column_at);
+    put(b"H", out, column_end)
+}
+
+// Row i: its place and its cells.
+fn put_row(w: usize, i: usize, screen: &[u8], out: &mut [u8], at: usize) -> usize
+    requires { ⌜ (0 < i) × (i * w ≤ length (now screen)) ⌝ }
+    requires { ⌜ at + length (sentRow w (now screen) i) ≤ length (now out) ⌝ }
+    ensures { λ next. ⌜ Wrote at (sentRow w (now (screen .entry)) i) (now (out .entry)) next (now (out .exit)) ⌝ }
+{
+    let cells_at = put_place(i, 1, out, at);
+    let to = i * w;
+    put(&screen[to - w..to], out, cells_at)
+}
+
+// The named rows, one behind the other.
+pub fn put_rows(
+    w: usize,
+    first: usize,
+    last: usize,
+    screen: &[u8],
+    out: &mut [u8],
+    at: usize,
+) -> usize
+    requires { ⌜ RowsIn w first last (now screen) ⌝ }
+    requires { ⌜ at + length (sentRows w first last (now screen)) ≤ length (now out) ⌝ }
+    ensures { λ next. ⌜ Wrote at (sentRows w first last (now (screen .entry))) (now (out .entry)) next (now (out .exit)) ⌝ }
+{
+    let rows = named_rows(first, last);
+    let mut next = at;
+    let mut i = 0;
+    while i < rows {
+        next = put_row(w, first + i, screen, out, next);
+        i += 1;
+    }
+    next
+}
