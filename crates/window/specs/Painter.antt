@@ -11,12 +11,12 @@ use Rattle.gap.specs.Lines.{newline, newlines, sinceAfter}
 use Rattle.window.specs.declared.Pen.{Pen}
 
 -- The pen, which is at a line and a column of the text, both from 0, and the screen.
-pub record Painting : Type 0 where
+pub record Sheet : Type 0 where
   pub pen : Pen
   pub screen : List ℕ
 
 -- Before any text.
-abbrev pub begun : List ℕ → Painting
+abbrev pub begun : List ℕ → Sheet
 begun screen = record { pen = record { y = 0; x = 0; changed = false; first = 0; last = 0 }; screen = screen }
 
 -- The line is above the window, or below it: then painting is over.
@@ -34,7 +34,7 @@ abbrev pub spotOf : Frame → Pen → ℕ
 spotOf f pen = (pen .y - f .r) * f .w + across f pen
 
 -- A run of cells is written; a cell that was another one marks the row.
-abbrev pub put : ℕ → List ℕ → Painting → Painting
+abbrev pub put : ℕ → List ℕ → Sheet → Sheet
 put at cells p =
     record {
       pen =
@@ -49,7 +49,7 @@ put at cells p =
     }
 
 -- The pen goes n columns on.
-abbrev pub along : ℕ → Painting → Painting
+abbrev pub along : ℕ → Sheet → Sheet
 along n p =
     record {
       pen = record { y = p .pen .y; x = p .pen .x + n; changed = p .pen .changed; first = p .pen .first; last = p .pen .last };
@@ -60,7 +60,7 @@ along n p =
 abbrev pub inWindow : Frame → Pen → Bool
 inWindow f pen = not (above f pen) && (leb (f .c) (pen .x) && ltb (pen .x) (f .c + f .w))
 
-unfoldable pub letter : Frame → ℕ → Painting → Painting
+unfoldable pub letter : Frame → ℕ → Sheet → Sheet
 letter f b p =
     cond (over f (p .pen)) p (along 1 (cond (inWindow f (p .pen)) (put (spotOf f (p .pen)) (b ∷ []) p) p))
 
@@ -77,32 +77,32 @@ penBelow f pen changed =
     }
 
 -- The end of a line: above the window the pen goes on to the next; in it, the rest of the row is blank.
-abbrev pub lineBelow : Painting → Painting
+abbrev pub lineBelow : Sheet → Sheet
 lineBelow p =
     record {
       pen = record { y = p .pen .y + 1; x = 0; changed = p .pen .changed; first = p .pen .first; last = p .pen .last };
       screen = p .screen;
     }
 
-abbrev pub rowBelow : Frame → Painting → Painting
+abbrev pub rowBelow : Frame → Sheet → Sheet
 rowBelow f p = record { pen = penBelow f (p .pen) (p .pen .changed); screen = p .screen }
 
-unfoldable pub lineEnd : Frame → Painting → Painting
+unfoldable pub lineEnd : Frame → Sheet → Sheet
 lineEnd f p =
     cond (over f (p .pen)) p
     (cond (above f (p .pen)) (lineBelow p)
     (rowBelow f (put (spotOf f (p .pen)) (replicate (f .w - across f (p .pen)) 32) p)))
 
 -- A text, and the end of all: the line ends, and so do the empty ones below it.
-unfoldable pub paint : Frame → List ℕ → Painting → Painting
+unfoldable pub paint : Frame → List ℕ → Sheet → Sheet
 paint f [] p = p
 paint f (b ∷ t) p = paint f t (cond (eqb b newline) (lineEnd f p) (letter f b p))
 
-unfoldable pub finishPaint : Frame → Painting → Painting
+unfoldable pub finishPaint : Frame → Sheet → Sheet
 finishPaint f p = times (lineEnd f) (f .r + f .h - p .pen .y) p
 
 -- What a painting function asks of frame, pen and screen, for a text of n bytes: sizes as tabled, and no sum that could wrap.
-pub record Easel (f : Frame) (n : ℕ) (p : Painting) : Type 0 where
+pub record Easel (f : Frame) (n : ℕ) (p : Sheet) : Type 0 where
   pub long : length (p .screen) ≡ f .h * f .w
   pub rows : f .h ≤ 64
   pub columns : f .w ≤ 256
@@ -118,8 +118,8 @@ pub record Canvas (f : Frame) (n : ℕ) (screen : List ℕ) : Type 0 where
   pub short : n ≤ 2 ^ 20
 
 -- A painting function does with a text what the definition does: pen and screen are determined.
-abbrev pub painting : Pen → List ℕ → Painting
-painting pen screen = record { pen = pen; screen = screen }
+abbrev pub sheet : Pen → List ℕ → Sheet
+sheet pen screen = record { pen = pen; screen = screen }
 
 -- Place at is the start of a line, with k newlines behind it.
 pub record LineStart (t : List ℕ) (k at : ℕ) : Type 0 where

@@ -15,7 +15,7 @@ ghost use lib.ListN.{length, replicate};
 ghost use lib.Dec.{eqb};
 ghost use Rattle.gap.specs.Sequence.{every, sameBytes};
 ghost use Rattle.gap.specs.Lines.{newline, newlines};
-ghost use Rattle.window.specs.Painter.{above, over, penBelow, lineEnd, paint, finishPaint, begun, Easel, Canvas, painting, RunEnd, LineStart};
+ghost use Rattle.window.specs.Painter.{above, over, penBelow, lineEnd, paint, finishPaint, begun, Easel, Canvas, sheet, RunEnd, LineStart};
 ghost use mathlib.Core.List.{[], _∷_};
 ghost use Rattle.gap.specs.Doc.{content};
 ghost use Rattle.gap.specs.Layout.{ungap};
@@ -98,9 +98,9 @@ fn pen_at(pen: Pen, x: usize, changed: bool) -> Pen
 // A run without newline, in a row of the window: what lies between column c and c + W is written in one go.
 fn draw_run(f: Frame, pen: Pen, run: &[u8], screen: &mut [u8]) -> Pen
     requires { ⌜ every (λ b. not (eqb b newline)) (now run) ≡ true ⌝ }
-    requires { ⌜ Easel f (length (now run)) (painting pen (now screen)) ⌝ }
+    requires { ⌜ Easel f (length (now run)) (sheet pen (now screen)) ⌝ }
     requires { ⌜ (above f pen ≡ false) × (over f pen ≡ false) ⌝ }
-    ensures { λ q. ⌜ painting q (now (screen .exit)) ≡ paint f (now (run .entry)) (painting pen (now (screen .entry))) ⌝ }
+    ensures { λ q. ⌜ sheet q (now (screen .exit)) ≡ paint f (now (run .entry)) (sheet pen (now (screen .entry))) ⌝ }
 {
     let r = f.r;
     let c = f.c;
@@ -160,9 +160,9 @@ fn next_line(f: Frame, pen: Pen, changed: bool) -> Pen
 
 // The end of a line in a row of the window: blanks to the right edge.
 fn end_row(f: Frame, pen: Pen, screen: &mut [u8]) -> Pen
-    requires { ⌜ Easel f 1 (painting pen (now screen)) ⌝ }
+    requires { ⌜ Easel f 1 (sheet pen (now screen)) ⌝ }
     requires { ⌜ (above f pen ≡ false) × (over f pen ≡ false) ⌝ }
-    ensures { λ q. ⌜ painting q (now (screen .exit)) ≡ lineEnd f (painting pen (now (screen .entry))) ⌝ }
+    ensures { λ q. ⌜ sheet q (now (screen .exit)) ≡ lineEnd f (sheet pen (now (screen .entry))) ⌝ }
 {
     let r = f.r;
     let w = f.w;
@@ -193,9 +193,9 @@ fn run_end(t: &[u8], i: usize) -> usize
 
 // A text from the window's first line on, run by run, until it ends or the window does.
 fn draw(f: Frame, pen: Pen, t: &[u8], screen: &mut [u8]) -> Pen
-    requires { ⌜ Easel f (length (now t)) (painting pen (now screen)) ⌝ }
+    requires { ⌜ Easel f (length (now t)) (sheet pen (now screen)) ⌝ }
     requires { ⌜ above f pen ≡ false ⌝ }
-    ensures { λ q. ⌜ painting q (now (screen .exit)) ≡ paint f (now (t .entry)) (painting pen (now (screen .entry))) ⌝ }
+    ensures { λ q. ⌜ sheet q (now (screen .exit)) ≡ paint f (now (t .entry)) (sheet pen (now (screen .entry))) ⌝ }
 {
     let n = t.len();
     let bottom = f.r + f.h;
@@ -233,8 +233,8 @@ fn line_start(t: &[u8], k: usize) -> usize
 
 // A piece of the text, wherever the pen is: what lies above the window is only counted.
 fn feed(f: Frame, pen: Pen, t: &[u8], screen: &mut [u8]) -> Pen
-    requires { ⌜ Easel f (length (now t)) (painting pen (now screen)) ⌝ }
-    ensures { λ q. ⌜ painting q (now (screen .exit)) ≡ paint f (now (t .entry)) (painting pen (now (screen .entry))) ⌝ }
+    requires { ⌜ Easel f (length (now t)) (sheet pen (now screen)) ⌝ }
+    ensures { λ q. ⌜ sheet q (now (screen .exit)) ≡ paint f (now (t .entry)) (sheet pen (now (screen .entry))) ⌝ }
 {
     let r = f.r;
     let y = pen.y;
@@ -264,9 +264,9 @@ fn feed(f: Frame, pen: Pen, t: &[u8], screen: &mut [u8]) -> Pen
 
 // The rows below the text: blank.
 fn finish(f: Frame, pen: Pen, screen: &mut [u8]) -> Pen
-    requires { ⌜ Easel f 65 (painting pen (now screen)) ⌝ }
+    requires { ⌜ Easel f 65 (sheet pen (now screen)) ⌝ }
     requires { ⌜ above f pen ≡ false ⌝ }
-    ensures { λ q. ⌜ painting q (now (screen .exit)) ≡ finishPaint f (painting pen (now (screen .entry))) ⌝ }
+    ensures { λ q. ⌜ sheet q (now (screen .exit)) ≡ finishPaint f (sheet pen (now (screen .entry))) ⌝ }
 {
     let bottom = f.r + f.h;
     let mut now = pen;
@@ -280,16 +280,16 @@ fn finish(f: Frame, pen: Pen, screen: &mut [u8]) -> Pen
 
 // The line break and the mark that begin a quotation, and the line break that ends it.
 fn open_quotation(f: Frame, pen: Pen, screen: &mut [u8]) -> Pen
-    requires { ⌜ Easel f 2 (painting pen (now screen)) ⌝ }
-    ensures { λ q. ⌜ painting q (now (screen .exit)) ≡ paint f (newline ∷ 62 ∷ []) (painting pen (now (screen .entry))) ⌝ }
+    requires { ⌜ Easel f 2 (sheet pen (now screen)) ⌝ }
+    ensures { λ q. ⌜ sheet q (now (screen .exit)) ≡ paint f (newline ∷ 62 ∷ []) (sheet pen (now (screen .entry))) ⌝ }
 {
     let mark = [10u8, 62u8];
     feed(f, pen, &mark, screen)
 }
 
 fn close_quotation(f: Frame, pen: Pen, screen: &mut [u8]) -> Pen
-    requires { ⌜ Easel f 1 (painting pen (now screen)) ⌝ }
-    ensures { λ q. ⌜ painting q (now (screen .exit)) ≡ paint f (newline ∷ []) (painting pen (now (screen .entry))) ⌝ }
+    requires { ⌜ Easel f 1 (sheet pen (now screen)) ⌝ }
+    ensures { λ q. ⌜ sheet q (now (screen .exit)) ≡ paint f (newline ∷ []) (sheet pen (now (screen .entry))) ⌝ }
 {
     let mark = [10u8];
     feed(f, pen, &mark, screen)
@@ -299,7 +299,7 @@ fn close_quotation(f: Frame, pen: Pen, screen: &mut [u8]) -> Pen
 fn paint_main(f: Frame, text: &[u8], l: usize, r: usize, screen: &mut [u8]) -> Pen
     requires { ⌜ Canvas f (length (now text)) (now screen) ⌝ }
     requires { ⌜ l + r ≤ length (now text) ⌝ }
-    ensures { λ q. ⌜ painting q (now (screen .exit)) ≡ paint f (content (ungap l r (now (text .entry)))) (begun (now (screen .entry))) ⌝ }
+    ensures { λ q. ⌜ sheet q (now (screen .exit)) ≡ paint f (content (ungap l r (now (text .entry)))) (begun (now (screen .entry))) ⌝ }
 {
     let back = text.len() - r;
     let left = feed(f, fresh(), &text[..l], screen);
@@ -331,7 +331,7 @@ fn paint_quoted(
 ) -> Pen
     requires { ⌜ Canvas f (length (now text) + length (now quarter)) (now screen) ⌝ }
     requires { ⌜ (l + r ≤ length (now text)) × (q + s ≤ length (now quarter)) ⌝ }
-    ensures { λ p. ⌜ painting p (now (screen .exit))
+    ensures { λ p. ⌜ sheet p (now (screen .exit))
         ≡ paint f (content (virtualIn Quoted (ungap l r (now (text .entry))) (ungap q s (now (quarter .entry))))) (begun (now (screen .entry))) ⌝ }
 {
     let back = text.len() - r;

@@ -14,7 +14,7 @@ use Rattle.gap.specs.Doc.{times}
 use Rattle.gap.specs.Lines.{newline, Unbroken}
 use Rattle.gap.proofs.Laws.Sequence.{length-part}
 use Rattle.window.specs.Words.{Frame}
-use Rattle.window.specs.Painter.{Painting, above, lineEnd, paint, finishPaint, RunEnd, Easel}
+use Rattle.window.specs.Painter.{Sheet, above, lineEnd, paint, finishPaint, RunEnd, Easel}
 use Rattle.window.proofs.Laws.Paint.{InRow, in-row, paint-append, paint-over, easel-on, easel-less}
 use Rattle.window.proofs.Laws.PaintedRun.{Run}
 use Rattle.window.proofs.Laws.DrawnCells.{Inside, row-end, run-row}
@@ -31,26 +31,26 @@ split-at i e t later =
     sym (rw (← onward) (take-append-drop (e - i) (drop i t)))
 
 -- A text was drawn up to place i: what is left of it decides.
-pub record Drawn (f : Frame) (t : List ℕ) (first : Painting) (i : ℕ) (p : Painting) : Type 0 where
+pub record Drawn (f : Frame) (t : List ℕ) (first : Sheet) (i : ℕ) (p : Sheet) : Type 0 where
   pub within : i ≤ length t
   pub easel : Easel f (length t - i) p
   pub top : above f (p .pen) ≡ false
   pub rest : paint f t first ≡ paint f (drop i t) p
 
 -- The same with the pen in a row of the window.
-pub record DrawnInRow (f : Frame) (t : List ℕ) (first : Painting) (i : ℕ) (p : Painting) : Type 0 where
+pub record DrawnInRow (f : Frame) (t : List ℕ) (first : Sheet) (i : ℕ) (p : Sheet) : Type 0 where
   pub drawn : Drawn f t first i p
   pub bottom : p .pen .y < f .r + f .h
 
-pub drawn-in-row : {f : Frame} {t : List ℕ} {first : Painting} {i : ℕ} {p : Painting} → Drawn f t first i p → p .pen .y < f .r + f .h
+pub drawn-in-row : {f : Frame} {t : List ℕ} {first : Sheet} {i : ℕ} {p : Sheet} → Drawn f t first i p → p .pen .y < f .r + f .h
     → DrawnInRow f t first i p
 drawn-in-row so-far bottom = record { drawn = so-far; bottom = bottom }
 
-pub drawn-none : {f : Frame} {t : List ℕ} {p : Painting} → Easel f (length t) p → above f (p .pen) ≡ false → Drawn f t p 0 p
+pub drawn-none : {f : Frame} {t : List ℕ} {p : Sheet} → Easel f (length t) p → above f (p .pen) ≡ false → Drawn f t p 0 p
 drawn-none {f} {t} {p} easel top =
     record { within = omega arith; easel = easel-less f (length t) (length t - 0) p (omega arith) easel; top = top; rest = refl }
 
-module _ {f : Frame} {t : List ℕ} {first : Painting} {i : ℕ} {p : Painting} where
+module _ {f : Frame} {t : List ℕ} {first : Sheet} {i : ℕ} {p : Sheet} where
   pub drawn-over : Drawn f t first i p → f .r + f .h ≤ p .pen .y → p ≡ paint f t first
   drawn-over so-far low = sym (so-far .rest ∙ paint-over f p (le-leb (f .r + f .h) (p .pen .y) low) (drop i t))
 
@@ -80,7 +80,7 @@ module _ {f : Frame} {t : List ℕ} {first : Painting} {i : ℕ} {p : Painting} 
           let shorter : length (midOf i (e - i) t) ≤ length t - i = omega (arith, size, run .high) in
           (unbroken, (easel-less f (length t - i) _ p shorter (so-far .drawn .easel), tests))
 
-      pub drawn-run : {q : Painting} → q ≡ paint f (midOf i (e - i) t) p → DrawnInRow f t first e q
+      pub drawn-run : {q : Sheet} → q ≡ paint f (midOf i (e - i) t) p → DrawnInRow f t first e q
       drawn-run {q} painted =
           let bytes = midOf i (e - i) t in
           let line : q .pen .y ≡ p .pen .y = ap (λ s. s .pen .y) painted ∙ run-row f bytes p inside unbroken in
@@ -100,7 +100,7 @@ module _ {f : Frame} {t : List ℕ} {first : Painting} {i : ℕ} {p : Painting} 
     pub line-asks : i < length t → (Easel f 1 p) × Inside f p
     line-asks more = (easel-less f (length t - i) 1 p (omega arith) (so-far .drawn .easel), tests)
 
-    pub drawn-line : {q : Painting} → i < length t → getD t i 0 ≡ newline → q ≡ lineEnd f p → Drawn f t first (i + 1) q
+    pub drawn-line : {q : Sheet} → i < length t → getD t i 0 ≡ newline → q ≡ lineEnd f p → Drawn f t first (i + 1) q
     unfolding paint
     drawn-line more e ended =
         let all : 1 + (length t - (i + 1)) ≤ length t - i = omega arith in
@@ -112,19 +112,19 @@ module _ {f : Frame} {t : List ℕ} {first : Painting} {i : ℕ} {p : Painting} 
         }
 
 -- The lines before y have ended: those that are left decide.
-pub record Finished (f : Frame) (first : Painting) (y : ℕ) (p : Painting) : Type 0 where
+pub record Finished (f : Frame) (first : Sheet) (y : ℕ) (p : Sheet) : Type 0 where
   pub line : p .pen .y ≡ y
   pub top : above f (p .pen) ≡ false
   pub easel : Easel f (f .r + f .h + 1 - y) p
   pub rest : finishPaint f first ≡ times (lineEnd f) (f .r + f .h - y) p
 
-pub finished-none : {f : Frame} {p : Painting} → Easel f 65 p → above f (p .pen) ≡ false → Finished f p (p .pen .y) p
+pub finished-none : {f : Frame} {p : Sheet} → Easel f 65 p → above f (p .pen) ≡ false → Finished f p (p .pen .y) p
 unfolding finishPaint
 finished-none {f} {p} easel top =
     let all : f .r + f .h + 1 - p .pen .y ≤ 65 = omega (arith, ltb-false (p .pen .y) (f .r) top, easel .rows) in
     record { line = refl; top = top; easel = easel-less f 65 _ p all easel; rest = refl }
 
-module _ {f : Frame} {first : Painting} {y : ℕ} {p : Painting} (so-far : Finished f first y p) where
+module _ {f : Frame} {first : Sheet} {y : ℕ} {p : Sheet} (so-far : Finished f first y p) where
   pub finished-all : f .r + f .h ≤ y → p ≡ finishPaint f first
   unfolding times
   finished-all end = let none : f .r + f .h - y ≡ 0 = omega arith in sym (so-far .rest ∙ rw none)
@@ -136,7 +136,7 @@ module _ {f : Frame} {first : Painting} {y : ℕ} {p : Painting} (so-far : Finis
       (so-far .top, lt-leb (f .r + f .h) (p .pen .y) (rw (so-far .line) bottom)),
     )
 
-    pub finished-line : {q : Painting} → q ≡ lineEnd f p → Finished f first (y + 1) q
+    pub finished-line : {q : Sheet} → q ≡ lineEnd f p → Finished f first (y + 1) q
     unfolding paint times
     finished-line {q} ended =
         let inside = in-row f p (so-far .easel .long) (end-asks .1 .0) (end-asks .1 .1) in

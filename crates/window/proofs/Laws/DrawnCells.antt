@@ -18,7 +18,7 @@ use Rattle.gap.proofs.Laws.Sequence.{length-part}
 use Rattle.gap.proofs.Laws.Runs.{Copied, copied-none, copied-more, copied-all, part-lent}
 use Rattle.window.specs.Words.{Frame}
 use Rattle.window.specs.declared.Pen.{Pen}
-use Rattle.window.specs.Painter.{Painting, painting, above, over, across, spotOf, Easel}
+use Rattle.window.specs.Painter.{Sheet, sheet, above, over, across, spotOf, Easel}
 use Rattle.window.specs.Painter.{put, along, penBelow, rowBelow, lineEnd, paint}
 use Rattle.window.proofs.Laws.Paint.{InRow, in-row, row-fits, blanks}
 use Rattle.window.proofs.Laws.PaintedRun.{Run, lowest, highest, paint-run-none, paint-run}
@@ -69,16 +69,16 @@ blanked-more {old} {s} {same} {i} so-far more =
     written-more so-far (omega (arith, so-far .whole)) (sym (getD-replicate (length old) i 32 0 more))
 
 -- The tests that say that the pen is in a row of the window.
-abbrev pub Inside : Frame → Painting → Type 0
+abbrev pub Inside : Frame → Sheet → Type 0
 Inside f p = (above f (p .pen) ≡ false) × (over f (p .pen) ≡ false)
 
 -- Then that row is on the screen, which is small.
-pub record OnScreen (f : Frame) (p : Painting) : Type 0 where
+pub record OnScreen (f : Frame) (p : Sheet) : Type 0 where
   pub inside : InRow f (p .pen .y) (p .screen)
   pub fits : (p .pen .y - f .r) * f .w + f .w ≤ length (p .screen)
   pub small : length (p .screen) ≤ 16384
 
-pub on-screen : {f : Frame} {n : ℕ} {p : Painting} → Easel f n p → Inside f p → OnScreen f p
+pub on-screen : {f : Frame} {n : ℕ} {p : Sheet} → Easel f n p → Inside f p → OnScreen f p
 on-screen {f} {n} {p} easel tests =
     let inside = in-row f p (easel .long) (tests .0) (tests .1) in record {
       inside = inside;
@@ -99,9 +99,9 @@ lent-size a k s fits = ap length (part-lent a k s fits) ∙ length-part a k s fi
 -- A part of the screen is lent, compared and written over: that is put.
 put-back : (pen : Pen) (screen run back : List ℕ) (at k : ℕ) (changed : Bool) → length run ≡ k → back ≡ run
     → changed ≡ not (sameBytes (lent at k screen) run)
-    → painting (record { y = pen .y; x = pen .x; changed = pen .changed || changed; first = pen .first; last = pen .last })
+    → sheet (record { y = pen .y; x = pen .x; changed = pen .changed || changed; first = pen .first; last = pen .last })
     (given at k screen back)
-    ≡ put at run (painting pen screen)
+    ≡ put at run (sheet pen screen)
 unfolding part patch
 put-back pen screen run back at k changed size e mark = let all : at + k - at ≡ length run = omega arith in rw (e, mark, all)
 
@@ -113,7 +113,7 @@ abbrev cellOf : Frame → Pen → ℕ → ℕ
 cellOf f pen column = rowStart f pen + (column - f .c)
 
 -- In a row of the window a line ends with blanks, and the pen goes below.
-pub row-end : (f : Frame) (p : Painting) → InRow f (p .pen .y) (p .screen)
+pub row-end : (f : Frame) (p : Sheet) → InRow f (p .pen .y) (p .screen)
     → lineEnd f p ≡ rowBelow f (put (spotOf f (p .pen)) (blanks f p) p)
 unfolding lineEnd
 row-end f p row =
@@ -123,12 +123,12 @@ row-end f p row =
 abbrev rest : Frame → Pen → ℕ → List ℕ → List ℕ
 rest f pen done screen = lent (rowStart f pen + done) (f .w - done) screen
 
-pub row-ended : {f : Frame} {pen q : Pen} {screen back : List ℕ} {done : ℕ} {changed : Bool} → OnScreen f (painting pen screen)
+pub row-ended : {f : Frame} {pen q : Pen} {screen back : List ℕ} {done : ℕ} {changed : Bool} → OnScreen f (sheet pen screen)
     → done ≡ across f pen
     → back ≡ replicate (length (rest f pen done screen)) 32
     → changed ≡ not (sameBytes (rest f pen done screen) (replicate (length (rest f pen done screen)) 32))
     → q ≡ penBelow f pen (pen .changed || changed)
-    → painting q (given (rowStart f pen + done) (f .w - done) screen back) ≡ lineEnd f (painting pen screen)
+    → sheet q (given (rowStart f pen + done) (f .w - done) screen back) ≡ lineEnd f (sheet pen screen)
 row-ended {f} {pen} {q} {screen} {back} {done} {changed} row e blank mark below =
     let at = rowStart f pen + done in
     let cells = length (rest f pen done screen) in
@@ -137,8 +137,8 @@ row-ended {f} {pen} {q} {screen} {back} {done} {changed} row e blank mark below 
     let written = put-back pen screen (replicate cells 32) back at (f .w - done) changed as-many blank mark in
     rw below
     (ap (rowBelow f) written
-    ∙ ap₂ (λ n d. rowBelow f (put (rowStart f pen + d) (replicate n 32) (painting pen screen))) (size ∙ ap (λ d. f .w - d) e) e
-    ∙ sym (row-end f (painting pen screen) (row .inside)))
+    ∙ ap₂ (λ n d. rowBelow f (put (rowStart f pen + d) (replicate n 32) (sheet pen screen))) (size ∙ ap (λ d. f .w - d) e) e
+    ∙ sym (row-end f (sheet pen screen) (row .inside)))
 
 -- Of the columns of a run, those from low on and before high are seen, and there are some.
 record Seen (c w x n low high : ℕ) : Type 0 where
@@ -164,7 +164,7 @@ pub record Shown (f : Frame) (pen : Pen) (screen run : List ℕ) (low high : ℕ
   pub bytes : low - pen .x + (high - low) ≤ length run
 
 -- A run in a row of the window, of which no columns are seen or some.
-module _ {f : Frame} {pen : Pen} {screen : List ℕ} (row : OnScreen f (painting pen screen)) (run : List ℕ) {low high : ℕ}
+module _ {f : Frame} {pen : Pen} {screen : List ℕ} (row : OnScreen f (sheet pen screen)) (run : List ℕ) {low high : ℕ}
     (from : low ≡ max (f .c) (pen .x)) (to : high ≡ min (f .c + f .w) (pen .x + length run)) where
   pub shown : low < high → Shown f pen screen run low high
   shown some =
@@ -173,28 +173,28 @@ module _ {f : Frame} {pen : Pen} {screen : List ℕ} (row : OnScreen f (painting
 
   pub run-unseen : {q : Pen} → Run run → high ≤ low
       → q ≡ record { y = pen .y; x = pen .x + length run; changed = pen .changed; first = pen .first; last = pen .last }
-      → painting q screen ≡ paint f run (painting pen screen)
+      → sheet q screen ≡ paint f run (sheet pen screen)
   run-unseen unbroken none moved =
-      rw moved (sym (paint-run-none f run (painting pen screen) (row .inside) unbroken (omega arith)))
+      rw moved (sym (paint-run-none f run (sheet pen screen) (row .inside) unbroken (omega arith)))
 
   pub run-drawn : {q : Pen} {back : List ℕ} {changed : Bool} → Run run → low < high
       → back ≡ lent (low - pen .x) (high - low) run
       → changed ≡ not (sameBytes (lent (cellOf f pen low) (high - low) screen) (lent (low - pen .x) (high - low) run))
       → q ≡ record { y = pen .y; x = pen .x + length run; changed = pen .changed || changed; first = pen .first; last = pen .last }
-      → painting q (given (cellOf f pen low) (high - low) screen back) ≡ paint f run (painting pen screen)
+      → sheet q (given (cellOf f pen low) (high - low) screen back) ≡ paint f run (sheet pen screen)
   run-drawn {q} {back} {changed} unbroken some e mark moved =
       let fits = shown some .bytes in
       let cells = lent (low - pen .x) (high - low) run in
       let size = lent-size (low - pen .x) (high - low) run fits in
-      let drawn : ℕ → List ℕ → Painting = λ column s. along (length run) (put (cellOf f pen column) s (painting pen screen)) in
+      let drawn : ℕ → List ℕ → Sheet = λ column s. along (length run) (put (cellOf f pen column) s (sheet pen screen)) in
       rw moved
       (ap (along (length run)) (put-back pen screen cells back (cellOf f pen low) (high - low) changed size e mark)
       ∙ ap (drawn low) (part-lent (low - pen .x) (high - low) run fits)
       ∙ ap₂ (λ l h. drawn l (part (l - pen .x) (h - l) run)) from to
-      ∙ sym (paint-run f run (painting pen screen) (row .inside) unbroken (omega arith)))
+      ∙ sym (paint-run f run (sheet pen screen) (row .inside) unbroken (omega arith)))
 
 -- A run leaves the pen in its row.
-pub run-row : (f : Frame) (run : List ℕ) (p : Painting) → InRow f (p .pen .y) (p .screen) → Run run → paint f run p .pen .y ≡ p .pen .y
+pub run-row : (f : Frame) (run : List ℕ) (p : Sheet) → InRow f (p .pen .y) (p .screen) → Run run → paint f run p .pen .y ≡ p .pen .y
 run-row f run p inside unbroken =
     let low = lowest f p in
     let high = highest f (length run) p in

@@ -15,7 +15,7 @@ use Rattle.gap.proofs.Laws.Sequence.{length-part}
 use Rattle.gap.proofs.Laws.Lines.{newlines-append, length-lines, lines-first, firstLine, lastLine, length-last, cursor-line}
 use Rattle.window.specs.Words.{Frame}
 use Rattle.window.specs.Window.{window}
-use Rattle.window.specs.Painter.{Painting, across, spotOf}
+use Rattle.window.specs.Painter.{Sheet, across, spotOf}
 use Rattle.window.proofs.Laws.Window.{length-window, window-cell}
 use Rattle.window.proofs.Laws.Paint.{row-fits, InRow, blanks}
 
@@ -68,7 +68,7 @@ blank-cells s a k fits blank =
     let less : j < k = rw length-replicate at inside in
     getD-replicate k j 32 32 less ∙ sym (getD-take k (drop a s) j 32 less ∙ getD-drop a s j 32 ∙ blank j less))
 
-module _ (f : Frame) (d : Doc) (p : Painting) (h : InRow f (p .pen .y) (p .screen)) where
+module _ (f : Frame) (d : Doc) (p : Sheet) (h : InRow f (p .pen .y) (p .screen)) where
   row-fits-window : (p .pen .y - f .r) * f .w + f .w ≤ length (window f d)
   row-fits-window = omega (arith, length-window f d, row-fits (p .pen .y - f .r) (f .h) (f .w) (omega arith))
 

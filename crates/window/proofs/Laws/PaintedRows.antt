@@ -15,7 +15,7 @@ use Rattle.gap.proofs.Laws.Tests.{clash}
 use Rattle.gap.proofs.Laws.Sequence.{length-part}
 use Rattle.window.specs.Words.{Frame}
 use Rattle.window.specs.Rows.{changed, firstRow, lastRow}
-use Rattle.window.specs.Painter.{Painting, begun, put, rowBelow}
+use Rattle.window.specs.Painter.{Sheet, begun, put, rowBelow}
 use Rattle.window.proofs.Laws.Rows.{Named, nothing, run, named}
 use Rattle.window.proofs.Laws.Paint.{moved}
 use Rattle.window.proofs.Laws.PaintedRun.{same-append}
@@ -102,7 +102,7 @@ either-differs false b = refl
 
 -- n rows are painted, and m cells of the next one: the screen is the new one up to there, the row is marked where one of its m cells
 -- was another one, and the rows that changed among the n are named.
-pub record Reached (f : Frame) (old new : List ℕ) (n m : ℕ) (p : Painting) : Type 0 where
+pub record Reached (f : Frame) (old new : List ℕ) (n m : ℕ) (p : Sheet) : Type 0 where
   pub cells : p .screen ≡ take (n * f .w + m) new ++ drop (n * f .w + m) old
   pub mark : p .pen .changed ≡ not (sameBytes (part (n * f .w) m old) (part (n * f .w) m new))
   pub rows : Named (changed (f .w) old new) n (p .pen .first) (p .pen .last)
@@ -114,18 +114,18 @@ module _ (f : Frame) (old new : List ℕ) where
       let start : 0 ≡ 0 * f .w + 0 = omega (arith, zero-mul (f .w)) in
       record { cells = ap (λ k. take k new ++ drop k old) start; mark = refl; rows = nothing (λ i low high. absurd (omega arith)) }
 
-  pub reached-moved : (n m y x : ℕ) (p : Painting) → Reached f old new n m p → Reached f old new n m (moved y x p)
+  pub reached-moved : (n m y x : ℕ) (p : Sheet) → Reached f old new n m p → Reached f old new n m (moved y x p)
   reached-moved n m y x p so-far = record { cells = so-far .cells; mark = so-far .mark; rows = so-far .rows }
 
-  pub reached-at : {n m a b : ℕ} {p : Painting} → n ≡ a → m ≡ b → Reached f old new n m p → Reached f old new a b p
+  pub reached-at : {n m a b : ℕ} {p : Sheet} → n ≡ a → m ≡ b → Reached f old new n m p → Reached f old new a b p
   reached-at {p = p} same also so-far = subst₂ (λ a b. Reached f old new a b p) same also so-far
 
   module _ (old-size : length old ≡ f .h * f .w) (new-size : length new ≡ f .h * f .w) where
-    pub reached-long : (n m : ℕ) (p : Painting) → Reached f old new n m p → length (p .screen) ≡ f .h * f .w
+    pub reached-long : (n m : ℕ) (p : Sheet) → Reached f old new n m p → length (p .screen) ≡ f .h * f .w
     reached-long n m p so-far = ap length (so-far .cells) ∙ simp (length-append, length-take, length-drop) (omega arith)
 
     -- The next cells are put.
-    pub reached-put : (n m : ℕ) (next : List ℕ) (p : Painting) → n * f .w + m + length next ≤ length (p .screen)
+    pub reached-put : (n m : ℕ) (next : List ℕ) (p : Sheet) → n * f .w + m + length next ≤ length (p .screen)
         → next ≡ part (n * f .w + m) (length next) new
         → Reached f old new n m p
         → Reached f old new n (m + length next) (put (n * f .w + m) next p)
@@ -148,7 +148,7 @@ module _ (f : Frame) (old new : List ℕ) where
         }
 
     -- The row is finished.
-    pub reached-row : (n : ℕ) (p : Painting) → p .pen .y - f .r ≡ n → Reached f old new n (f .w) p
+    pub reached-row : (n : ℕ) (p : Sheet) → p .pen .y - f .r ≡ n → Reached f old new n (f .w) p
         → Reached f old new (suc n) 0 (rowBelow f p)
     unfolding part sameBytes
     reached-row n p here so-far =
@@ -163,7 +163,7 @@ module _ (f : Frame) (old new : List ℕ) where
         }
 
     -- All rows are painted.
-    pub reached-all : (p : Painting) → Reached f old new (f .h) 0 p
+    pub reached-all : (p : Sheet) → Reached f old new (f .h) 0 p
         → (p .screen ≡ new) × (p .pen .first ≡ firstRow (f .h) (f .w) old new) × (p .pen .last ≡ lastRow (f .h) (f .w) old new)
     reached-all p so-far =
         let end : f .h * f .w + 0 ≡ f .h * f .w = omega arith in

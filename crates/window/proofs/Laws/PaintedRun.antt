@@ -15,7 +15,7 @@ use Rattle.gap.proofs.Laws.Tests.{and-left, and-right, cond-false}
 use Rattle.gap.proofs.Laws.Sequence.{length-part}
 use Rattle.gap.proofs.Laws.Runs.{length-patch, patch-none}
 use Rattle.window.specs.Words.{Frame}
-use Rattle.window.specs.Painter.{Painting, above, over, spotOf, put, along, letter, lineEnd, paint}
+use Rattle.window.specs.Painter.{Sheet, above, over, spotOf, put, along, letter, lineEnd, paint}
 use Rattle.window.proofs.Laws.Paint.{moved, InRow, letter-fits}
 
 -- Runs put together are the same where their parts are.
@@ -28,7 +28,7 @@ same-append (x ∷ a) (y ∷ s) b t e =
     ap (λ rest. eqb x y && rest) (same-append a s b t (omega arith)) ∙ sym (and-assoc (eqb x y) (sameBytes a s) (sameBytes b t))
 
 -- Nothing put changes nothing, and two runs side by side are put as one.
-pub put-none : (at : ℕ) (p : Painting) → put at [] p ≡ p
+pub put-none : (at : ℕ) (p : Sheet) → put at [] p ≡ p
 unfolding part sameBytes
 put-none at p =
     let unmarked = or-false (p .pen .changed) in
@@ -84,7 +84,7 @@ module _ (at : ℕ) (s t screen : List ℕ) (fits : at + length s ≤ length scr
       (marks was (sameBytes (part at (length s) screen) s) (sameBytes (part (at + length s) (length t) screen) t)
       ∙ ap (λ same. was || not same) same-two)
 
-pub put-two : (at : ℕ) (s t : List ℕ) (p : Painting) → at + length s ≤ length (p .screen)
+pub put-two : (at : ℕ) (s t : List ℕ) (p : Sheet) → at + length s ≤ length (p .screen)
     → put (at + length s) t (put at s p) ≡ put at (s ++ t) p
 put-two at s t p fits =
     let marked = marked-two at s t (p .screen) fits (p .pen .changed) in
@@ -95,7 +95,7 @@ put-two at s t p fits =
     }
 
 -- In a row of the window, a letter is painted between column c and column c + W only.
-module _ (f : Frame) (p : Painting) (h : InRow f (p .pen .y) (p .screen)) where
+module _ (f : Frame) (p : Sheet) (h : InRow f (p .pen .y) (p .screen)) where
   not-over : over f (p .pen) ≡ false
   not-over = lt-leb (f .r + f .h) (p .pen .y) (h .bottom)
 
@@ -116,7 +116,7 @@ module _ (f : Frame) (p : Painting) (h : InRow f (p .pen .y) (p .screen)) where
   unfolding letter
   letter-between b left right = rw (not-over, not-above, le-leb (f .c) (p .pen .x) left, lt-ltb (p .pen .x) (f .c + f .w) right)
 
-along-put : (n at : ℕ) (s : List ℕ) (p : Painting) → along n (put at s (along 1 p)) ≡ along (suc n) (put at s p)
+along-put : (n at : ℕ) (s : List ℕ) (p : Sheet) → along n (put at s (along 1 p)) ≡ along (suc n) (put at s p)
 along-put n at s p =
     let e : p .pen .x + 1 + n ≡ p .pen .x + suc n = omega arith in
     ap (λ x. moved (p .pen .y) x (put at s p)) e
@@ -129,7 +129,7 @@ run-rest : (b : ℕ) (u : List ℕ) → Run (b ∷ u) → Run u
 unfolding every
 run-rest b u unbroken = and-right (not (eqb b newline)) _ unbroken
 
-run-letter : (f : Frame) (b : ℕ) (u : List ℕ) (p : Painting) → Run (b ∷ u) → paint f (b ∷ u) p ≡ paint f u (letter f b p)
+run-letter : (f : Frame) (b : ℕ) (u : List ℕ) (p : Sheet) → Run (b ∷ u) → paint f (b ∷ u) p ≡ paint f u (letter f b p)
 unfolding every paint
 run-letter f b u p unbroken =
     let no-newline = not-true (eqb b newline) (and-left (not (eqb b newline)) _ unbroken) in
@@ -154,7 +154,7 @@ module _ (c w x : ℕ) where
 
 -- What of it lies in the window is put in one go: of the bytes from column c on, i bytes behind the pen, those in the k columns left.
 module _ (f : Frame) where
-  run-painted : (u : List ℕ) (p : Painting) (i k : ℕ) → InRow f (p .pen .y) (p .screen) → Run u
+  run-painted : (u : List ℕ) (p : Sheet) (i k : ℕ) → InRow f (p .pen .y) (p .screen) → Run u
       → i ≡ f .c - p .pen .x → k ≡ f .c + f .w - (p .pen .x + i)
       → paint f u p ≡ along (length u) (put (spotOf f (p .pen)) (take k (drop i u)) p)
   unfolding paint
@@ -196,10 +196,10 @@ take-min (suc k) [] = sym (take-nil (min (suc k) 0))
 take-min (suc k) (b ∷ s) = rw suc-min-suc (ap (λ t. b ∷ t) (take-min k s))
 
 -- The run between the first and the last column that it shows, as code finds them.
-abbrev pub lowest : Frame → Painting → ℕ
+abbrev pub lowest : Frame → Sheet → ℕ
 lowest f p = max (f .c) (p .pen .x)
 
-abbrev pub highest : Frame → ℕ → Painting → ℕ
+abbrev pub highest : Frame → ℕ → Sheet → ℕ
 highest f n p = min (f .c + f .w) (p .pen .x + n)
 
 module _ (c w x n : ℕ) where
@@ -219,13 +219,13 @@ module _ (c w x n : ℕ) where
   first-cell some = omega arith
 
 -- How many bytes of a run stand before column c, and how many columns are left from there.
-abbrev before : Frame → Painting → ℕ
+abbrev before : Frame → Sheet → ℕ
 before f p = f .c - p .pen .x
 
-abbrev left : Frame → Painting → ℕ
+abbrev left : Frame → Sheet → ℕ
 left f p = f .c + f .w - (p .pen .x + before f p)
 
-module _ (f : Frame) (u : List ℕ) (p : Painting) (h : InRow f (p .pen .y) (p .screen)) (run : Run u) where
+module _ (f : Frame) (u : List ℕ) (p : Sheet) (h : InRow f (p .pen .y) (p .screen)) (run : Run u) where
   from-c : paint f u p ≡ along (length u) (put (spotOf f (p .pen)) (take (left f p) (drop (before f p) u)) p)
   from-c = run-painted f u p (before f p) (left f p) h run refl refl
 

@@ -18,7 +18,7 @@ use Rattle.window.specs.Words.{Frame}
 use Rattle.window.specs.declared.Pen.{Pen}
 use Rattle.window.specs.Window.{window}
 use Rattle.window.specs.Rows.{firstRow, lastRow}
-use Rattle.window.specs.Painter.{Painting, begun, above, over, across, spotOf, put, along, letter, lineBelow, rowBelow}
+use Rattle.window.specs.Painter.{Sheet, begun, above, over, across, spotOf, put, along, letter, lineBelow, rowBelow}
 use Rattle.window.specs.Painter.{lineEnd, paint, finishPaint}
 use Rattle.window.proofs.Laws.Window.{length-window}
 use Rattle.window.proofs.Laws.Paint.{byte, paint-over, InRow, letter-fits, blanks, blanks-fit, Lettered, lettered, Ended, ended}
@@ -49,24 +49,24 @@ shown-start f pen start = go (above f pen) (over f pen)
     go false false = omega arith
 
 -- The pen is in the window or above it, or just below it, and the cells up to it are painted.
-record Painted (f : Frame) (d : Doc) (old : List ℕ) (p : Painting) : Type 0 where
+record Painted (f : Frame) (d : Doc) (old : List ℕ) (p : Sheet) : Type 0 where
   within : p .pen .y ≤ f .r + f .h
   so-far : Reached f old (window f d) (p .pen .y - f .r) (shown f (p .pen)) p
 
 module _ (f : Frame) (d : Doc) (old : List ℕ) (size : length old ≡ f .h * f .w) where
-  along-painted : (p : Painting) → Painted f d old p → shown f (p .pen) ≡ shown f (along 1 p .pen) → Painted f d old (along 1 p)
+  along-painted : (p : Sheet) → Painted f d old p → shown f (p .pen) ≡ shown f (along 1 p .pen) → Painted f d old (along 1 p)
   along-painted p painted same =
       let new = window f d in
       let so-far = reached-moved f old new _ _ (p .pen .y) (p .pen .x + 1) p (painted .so-far) in
       record { within = painted .within; so-far = reached-at f old new refl same so-far }
 
   -- Left or right of the window.
-  beside-painted : (p : Painting) → Painted f d old p → InRow f (p .pen .y) (p .screen)
+  beside-painted : (p : Sheet) → Painted f d old p → InRow f (p .pen .y) (p .screen)
       → across f (p .pen) ≡ across f (along 1 p .pen) → Painted f d old (along 1 p)
   beside-painted p painted h same =
       along-painted p painted (shown-inside f (p .pen) (p .screen) h ∙ same ∙ sym (shown-inside f (along 1 p .pen) (p .screen) h))
 
-  letter-painted : (b : ℕ) (p q : Painting) → Painted f d old p → getD (lineOf d (p .pen .y)) (p .pen .x) 32 ≡ b → Lettered f b p q
+  letter-painted : (b : ℕ) (p q : Sheet) → Painted f d old p → getD (lineOf d (p .pen .y)) (p .pen .x) 32 ≡ b → Lettered f b p q
       → Painted f d old q
   letter-painted b p _ painted this (letter-below e) = painted
   letter-painted b p _ painted this (letter-higher up) =
@@ -88,7 +88,7 @@ module _ (f : Frame) (d : Doc) (old : List ℕ) (size : length old ≡ f .h * f 
             (reached-moved f old new n (m + 1) (p .pen .y) (p .pen .x + 1) (put (spotOf f (p .pen)) (b ∷ []) p) next);
       }
 
-  end-painted : (p q : Painting) → Painted f d old p → length (lineOf d (p .pen .y)) ≡ p .pen .x → Ended f p q → Painted f d old q
+  end-painted : (p q : Sheet) → Painted f d old p → length (lineOf d (p .pen .y)) ≡ p .pen .x → Ended f p q → Painted f d old q
   end-painted p _ painted all (end-below e) = painted
   end-painted p _ painted all (end-higher up) =
       let new = window f d in
@@ -115,7 +115,7 @@ module _ (f : Frame) (d : Doc) (old : List ℕ) (size : length old ≡ f .h * f 
       }
 
 -- Where the pen is then.
-letter-pen : (f : Frame) (b : ℕ) (p q : Painting) → over f (p .pen) ≡ false → Lettered f b p q
+letter-pen : (f : Frame) (b : ℕ) (p q : Sheet) → over f (p .pen) ≡ false → Lettered f b p q
     → (q .pen .y ≡ p .pen .y) × (q .pen .x ≡ p .pen .x + 1)
 letter-pen f b p _ more (letter-below e) = clash e more
 letter-pen f b p _ more (letter-higher up) = (refl, refl)
@@ -123,36 +123,36 @@ letter-pen f b p _ more (letter-before h left) = (refl, refl)
 letter-pen f b p _ more (letter-behind h right) = (refl, refl)
 letter-pen f b p _ more (letter-inside h left right) = (refl, refl)
 
-end-pen : (f : Frame) (p q : Painting) → over f (p .pen) ≡ false → Ended f p q → (q .pen .y ≡ p .pen .y + 1) × (q .pen .x ≡ 0)
+end-pen : (f : Frame) (p q : Sheet) → over f (p .pen) ≡ false → Ended f p q → (q .pen .y ≡ p .pen .y + 1) × (q .pen .x ≡ 0)
 end-pen f p _ more (end-below e) = clash e more
 end-pen f p _ more (end-higher up) = (refl, refl)
 end-pen f p _ more (end-inside h) = (refl, refl)
 
 -- What is to be proved of the painter.
-abbrev Done : Frame → Doc → List ℕ → Painting → Type 0
+abbrev Done : Frame → Doc → List ℕ → Sheet → Type 0
 Done f d old p =
     let new = window f d in
     (p .screen ≡ new) × (p .pen .first ≡ firstRow (f .h) (f .w) old new) × (p .pen .last ≡ lastRow (f .h) (f .w) old new)
 
 -- Of the text t ++ u, t is painted: the pen is at its end.
-record Midway (f : Frame) (d : Doc) (old t u : List ℕ) (p : Painting) : Type 0 where
+record Midway (f : Frame) (d : Doc) (old t u : List ℕ) (p : Sheet) : Type 0 where
   whole : content d ≡ t ++ u
   line : p .pen .y ≡ newlines t
   column : p .pen .x ≡ since t
   painted : Painted f d old p
 
 module _ (f : Frame) (d : Doc) (old : List ℕ) (size : length old ≡ f .h * f .w) where
-  screen-long : (p : Painting) → Painted f d old p → length (p .screen) ≡ f .h * f .w
+  screen-long : (p : Sheet) → Painted f d old p → length (p .screen) ≡ f .h * f .w
   screen-long p painted = reached-long f old (window f d) size (length-window f d) _ _ p (painted .so-far)
 
-  all-painted : (p : Painting) → Painted f d old p → f .r + f .h ≤ p .pen .y → Done f d old p
+  all-painted : (p : Sheet) → Painted f d old p → f .r + f .h ≤ p .pen .y → Done f d old p
   all-painted p painted end =
       let rows : p .pen .y - f .r ≡ f .h = omega arith in
       let none : shown f (p .pen) ≡ 0 = rw (le-ltb (p .pen .y) (f .r) (omega arith), le-leb (f .r + f .h) (p .pen .y) end) in
       reached-all f old (window f d) size (length-window f d) p (reached-at f old (window f d) rows none (painted .so-far))
 
   -- The line ends below the text.
-  ends-painted : (k : ℕ) (p : Painting) → Painted f d old p → p .pen .y + k ≡ f .r + f .h → length (lineOf d (p .pen .y)) ≡ p .pen .x
+  ends-painted : (k : ℕ) (p : Sheet) → Painted f d old p → p .pen .y + k ≡ f .r + f .h → length (lineOf d (p .pen .y)) ≡ p .pen .x
       → ((i : ℕ) → p .pen .y < i → length (lineOf d i) ≡ 0)
       → Done f d old (times (lineEnd f) k p)
   unfolding times
@@ -165,21 +165,21 @@ module _ (f : Frame) (d : Doc) (old : List ℕ) (size : length old ≡ f .h * f 
       (λ i less. none i (omega arith))
 
   -- Painting is over, so that nothing is left to do; or the text is.
-  over-painted : (t : List ℕ) (p : Painting) → over f (p .pen) ≡ true → Painted f d old p → Done f d old (finishPaint f (paint f t p))
+  over-painted : (t : List ℕ) (p : Sheet) → over f (p .pen) ≡ true → Painted f d old p → Done f d old (finishPaint f (paint f t p))
   unfolding finishPaint times
   over-painted t p below painted =
       let end = leb-true (f .r + f .h) (p .pen .y) below in
       let none : f .r + f .h - p .pen .y ≡ 0 = omega arith in
       rw (paint-over f p below t) (rw none (all-painted p painted end))
 
-  end-of-text : (t : List ℕ) (p : Painting) → Midway f d old t [] p → Done f d old (finishPaint f p)
+  end-of-text : (t : List ℕ) (p : Sheet) → Midway f d old t [] p → Done f d old (finishPaint f p)
   unfolding finishPaint lines
   end-of-text t p m =
       ends-painted (f .r + f .h - p .pen .y) p (m .painted) (omega (arith, m .painted .within))
       (ap (λ y. length (lineOf d y)) (m .line) ∙ line-ends d t [] (m .whole) refl ∙ sym (m .column))
       (λ i less. no-line-left d t i (m .whole) (omega arith))
 
-  newline-on : (b : ℕ) (t u : List ℕ) (p : Painting) → eqb b newline ≡ true → over f (p .pen) ≡ false → Midway f d old t (b ∷ u) p
+  newline-on : (b : ℕ) (t u : List ℕ) (p : Sheet) → eqb b newline ≡ true → over f (p .pen) ≡ false → Midway f d old t (b ∷ u) p
       → Midway f d old (t ++ (b ∷ [])) u (lineEnd f p)
   unfolding newlines sinceAfter
   newline-on b t u p is more m =
@@ -195,7 +195,7 @@ module _ (f : Frame) (d : Doc) (old : List ℕ) (size : length old ≡ f .h * f 
         painted = end-painted f d old size p (lineEnd f p) (m .painted) all view;
       }
 
-  letter-on : (b : ℕ) (t u : List ℕ) (p : Painting) → eqb b newline ≡ false → over f (p .pen) ≡ false → Midway f d old t (b ∷ u) p
+  letter-on : (b : ℕ) (t u : List ℕ) (p : Sheet) → eqb b newline ≡ false → over f (p .pen) ≡ false → Midway f d old t (b ∷ u) p
       → Midway f d old (t ++ (b ∷ [])) u (letter f b p)
   unfolding newlines sinceAfter
   letter-on b t u p is more m =
@@ -211,7 +211,7 @@ module _ (f : Frame) (d : Doc) (old : List ℕ) (size : length old ≡ f .h * f 
         painted = letter-painted f d old size b p (letter f b p) (m .painted) (rw (m .line, m .column) this) view;
       }
 
-  byte-on : (b : ℕ) (t u : List ℕ) (p : Painting) → over f (p .pen) ≡ false → Midway f d old t (b ∷ u) p
+  byte-on : (b : ℕ) (t u : List ℕ) (p : Sheet) → over f (p .pen) ≡ false → Midway f d old t (b ∷ u) p
       → Midway f d old (t ++ (b ∷ [])) u (byte f b p)
   byte-on b t u p more m = go (eqb b newline) refl
     where
@@ -219,7 +219,7 @@ module _ (f : Frame) (d : Doc) (old : List ℕ) (size : length old ≡ f .h * f 
       go true e = newline-on b t u p e more m
       go false e = letter-on b t u p e more m
 
-  text-painted : (u t : List ℕ) (p : Painting) → Midway f d old t u p → Done f d old (finishPaint f (paint f u p))
+  text-painted : (u t : List ℕ) (p : Sheet) → Midway f d old t u p → Done f d old (finishPaint f (paint f u p))
   unfolding paint
   text-painted [] t p m = end-of-text t p m
   text-painted (b ∷ u) t p m =

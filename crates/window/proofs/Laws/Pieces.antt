@@ -15,21 +15,21 @@ use Rattle.gap.proofs.Laws.Runs.{tailOf, tail-lent}
 use Rattle.window.specs.Words.{Quoted, Frame}
 use Rattle.window.specs.declared.Pen.{Pen}
 use Rattle.window.specs.Window.{virtualIn}
-use Rattle.window.specs.Painter.{Painting, begun, above, paint, Easel, Canvas, painting, LineStart}
+use Rattle.window.specs.Painter.{Sheet, begun, above, paint, Easel, Canvas, sheet, LineStart}
 use Rattle.window.proofs.Laws.Paint.{moved, paint-append, paint-above, paint-top, paint-from, easel-on, easel-less}
 
 -- A piece that lies above the window: only its newlines and the column at its end count.
-pub fed-above : (f : Frame) (t : List ℕ) (p : Painting) {count column : ℕ} → count ≡ newlines t → column ≡ sinceAfter (p .pen .x) t
+pub fed-above : (f : Frame) (t : List ℕ) (p : Sheet) {count column : ℕ} → count ≡ newlines t → column ≡ sinceAfter (p .pen .x) t
     → p .pen .y + count < f .r → moved (p .pen .y + count) column p ≡ paint f t p
 fed-above f t p counted here up = rw (counted, here) (sym (paint-above f t p (omega arith)))
 
 -- A piece that reaches into the window from above, and the place in it where the window's first line starts.
-pub record FirstLine (f : Frame) (t : List ℕ) (p : Painting) (at : ℕ) : Type 0 where
+pub record FirstLine (f : Frame) (t : List ℕ) (p : Sheet) (at : ℕ) : Type 0 where
   pub up : p .pen .y < f .r
   pub low : f .r ≤ p .pen .y + newlines t
   pub start : LineStart t (p .pen .y + newlines t - f .r) at
 
-module _ (f : Frame) (t : List ℕ) (p : Painting) {count : ℕ} (counted : count ≡ newlines t) (up : p .pen .y < f .r)
+module _ (f : Frame) (t : List ℕ) (p : Sheet) {count : ℕ} (counted : count ≡ newlines t) (up : p .pen .y < f .r)
     (low : f .r ≤ p .pen .y + count) where
   pub fed-lines : p .pen .y + count - f .r < newlines t
   fed-lines = omega arith
@@ -38,7 +38,7 @@ module _ (f : Frame) (t : List ℕ) (p : Painting) {count : ℕ} (counted : coun
   first-line start = record { up = up; low = omega arith; start = rw counted at start }
 
 -- From there on it is drawn.
-module _ {f : Frame} {t : List ℕ} {p : Painting} {at : ℕ} (first : FirstLine f t p at) where
+module _ {f : Frame} {t : List ℕ} {p : Sheet} {at : ℕ} (first : FirstLine f t p at) where
   pub fed-asked : Easel f (length t) p
       → Easel f (length (tailOf at t)) (moved (f .r) 0 p) × (above f (moved (f .r) 0 p .pen) ≡ false)
   fed-asked e =
@@ -50,7 +50,7 @@ module _ {f : Frame} {t : List ℕ} {p : Painting} {at : ℕ} (first : FirstLine
   fed-painted = rw tail-lent (sym (paint-from f t p at (first .up) (first .low) (first .start)))
 
 -- One piece after the other: the text s is painted on a screen so far, and k pieces more may come.
-pub record Fed (f : Frame) (screen : List ℕ) (k : ℕ) (s : List ℕ) (p : Painting) : Type 0 where
+pub record Fed (f : Frame) (screen : List ℕ) (k : ℕ) (s : List ℕ) (p : Sheet) : Type 0 where
   pub painted : p ≡ paint f s (begun screen)
   pub easel : Easel f (k * 2 ^ 20) p
 
@@ -59,23 +59,23 @@ canvas-easel canvas m short =
     record { long = canvas .long; rows = canvas .rows; columns = canvas .columns; offsets = canvas .offsets; pen = omega arith }
 
 pub fed-none : {f : Frame} {n : ℕ} {screen : List ℕ} {pen : Pen} (k : ℕ) → k ≤ 2 ^ 20 → Canvas f n screen → pen ≡ begun screen .pen
-    → Fed f screen k [] (painting pen screen)
+    → Fed f screen k [] (sheet pen screen)
 unfolding paint
 fed-none {screen = screen} k few canvas fresh =
-    record { painted = ap (λ x. painting x screen) fresh; easel = rw fresh (canvas-easel canvas (k * 2 ^ 20) (omega arith)) }
+    record { painted = ap (λ x. sheet x screen) fresh; easel = rw fresh (canvas-easel canvas (k * 2 ^ 20) (omega arith)) }
 
-module _ {f : Frame} {screen s : List ℕ} {k : ℕ} {p : Painting} (fed : Fed f screen (suc k) s p) where
+module _ {f : Frame} {screen s : List ℕ} {k : ℕ} {p : Sheet} (fed : Fed f screen (suc k) s p) where
   fed-room : (n : ℕ) → n ≤ suc k * 2 ^ 20 → Easel f n p
   fed-room n short = easel-less f (suc k * 2 ^ 20) n p (omega arith) (fed .easel)
 
   pub fed-next : (n : ℕ) → n ≤ 2 ^ 20 → Easel f n p
   fed-next n short = fed-room n (omega arith)
 
-  pub fed-all : (t whole : List ℕ) {q : Painting} → q ≡ paint f t p → s ++ t ≡ whole → q ≡ paint f whole (begun screen)
+  pub fed-all : (t whole : List ℕ) {q : Sheet} → q ≡ paint f t p → s ++ t ≡ whole → q ≡ paint f whole (begun screen)
   fed-all t whole e same =
       e ∙ ap (paint f t) (fed .painted) ∙ sym (paint-append f s t (begun screen)) ∙ ap (λ u. paint f u (begun screen)) same
 
-  pub fed-on : (t : List ℕ) {q : Painting} → length t ≤ 2 ^ 20 → q ≡ paint f t p → Fed f screen k (s ++ t) q
+  pub fed-on : (t : List ℕ) {q : Sheet} → length t ≤ 2 ^ 20 → q ≡ paint f t p → Fed f screen k (s ++ t) q
   fed-on t short e =
       record {
         painted = fed-all t (s ++ t) e refl;

@@ -14,7 +14,7 @@ use Rattle.gap.proofs.Laws.Lines.{newlines-append}
 use Rattle.editor.specs.Bytes.{quarter, quarterOf}
 use Rattle.window.specs.Words.{Lengths, Mode, Main, Quoted, Frame}
 use Rattle.window.specs.Window.{virtualIn, visible}
-use Rattle.window.specs.Painter.{Painting, begun, above, paint, finishPaint, Easel, Canvas}
+use Rattle.window.specs.Painter.{Sheet, begun, above, paint, finishPaint, Easel, Canvas}
 use Rattle.window.specs.declared.Rows.{Rows}
 use Rattle.window.specs.Calls.{Texts, virtualHeld, Refreshed}
 use Rattle.window.proofs.Laws.Window.{visible-says}
@@ -72,13 +72,13 @@ length-held n text side texts =
     omega arith
 
 -- All pieces are painted, and what the refresh asked for holds.
-pub record AllPainted (f : Frame) (n : Lengths) (text side screen : List ℕ) (p : Painting) : Type 0 where
+pub record AllPainted (f : Frame) (n : Lengths) (text side screen : List ℕ) (p : Sheet) : Type 0 where
   pub texts : Texts n text side
   pub canvas : Canvas f (length text) screen
   pub seen : visible f (virtualHeld n text side) ≡ true
   pub whole : p ≡ paint f (content (virtualHeld n text side)) (begun screen)
 
-pub all-painted : {f : Frame} {n : Lengths} {text side screen : List ℕ} {d : Doc} {p : Painting} → Texts n text side
+pub all-painted : {f : Frame} {n : Lengths} {text side screen : List ℕ} {d : Doc} {p : Sheet} → Texts n text side
     → Canvas f (length text) screen × (visible f (virtualHeld n text side) ≡ true) → d ≡ virtualHeld n text side
     → p ≡ paint f (content d) (begun screen) → AllPainted f n text side screen p
 all-painted {f} {screen = screen} texts ready held e =
@@ -89,7 +89,7 @@ all-painted {f} {screen = screen} texts ready held e =
       whole = e ∙ ap (λ x. paint f (content x) (begun screen)) held;
     }
 
-module _ {f : Frame} {n : Lengths} {text side screen : List ℕ} {p : Painting} (all : AllPainted f n text side screen p) where
+module _ {f : Frame} {n : Lengths} {text side screen : List ℕ} {p : Sheet} (all : AllPainted f n text side screen p) where
   -- The cursor is visible, so that the pen is not above the window.
   pub finish-asked : Easel f 65 p × (above f (p .pen) ≡ false)
   finish-asked =
@@ -102,7 +102,7 @@ module _ {f : Frame} {n : Lengths} {text side screen : List ℕ} {p : Painting} 
         paint-not-above f (content d) (begun screen) (all .canvas .long) low,
       )
 
-  pub refreshed : {q : Painting} {rows : Rows} → q ≡ finishPaint f p → rows ≡ record { first = q .pen .first; last = q .pen .last }
+  pub refreshed : {q : Sheet} {rows : Rows} → q ≡ finishPaint f p → rows ≡ record { first = q .pen .first; last = q .pen .last }
       → Refreshed f (virtualHeld n text side) screen rows (q .screen)
   refreshed e named =
       let done = painted f (virtualHeld n text side) screen (all .canvas .long) in

@@ -3,14 +3,14 @@ use mathlib.Core.Path.{sym, _∙_}
 use Prim.Native.Nat.{_-_}
 use native.Mathlib.Omega.{arith}
 use lib.ListN.{length}
-use Rattle.window.specs.Painter.{painting}
+use Rattle.window.specs.Painter.{sheet}
 use Rattle.window.proofs.Laws.Drawing.{Drawn, drawn-none, drawn-in-row, drawn-run, drawn-line, drawn-over, drawn-all}
 use Rattle.window.proofs.Laws.Drawing.{run-asks, line-asks}
 use Rattle.window.proofs.painter.draw.Statement.{statement}
 use Rattle.window.proofs.painter.draw.Tie as tie
 
 abbrev Inv-loop : tie.InvT-loop
-Inv-loop f t screen₀ n bottom now₀ i₀ screen now i = Drawn f t (painting now₀ screen₀) i (painting now screen)
+Inv-loop f t screen₀ n bottom now₀ i₀ screen now i = Drawn f t (sheet now₀ screen₀) i (sheet now screen)
 
 abbrev μ-loop : tie.MeasureT-loop
 μ-loop f t screen₀ n bottom now₀ i₀ screen now i = length t - i

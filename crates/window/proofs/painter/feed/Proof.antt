@@ -3,7 +3,7 @@ use mathlib.Core.Path.{_∙_}
 use native.Mathlib.Omega.{arith}
 use borrow.Author.Needs.{needs}
 use borrow.Author.Tests.{le-ltb}
-use Rattle.window.specs.Painter.{painting}
+use Rattle.window.specs.Painter.{sheet}
 use Rattle.window.proofs.Laws.Spots.{newlines-within}
 use Rattle.window.proofs.Laws.Pieces.{fed-above, FirstLine, fed-lines, first-line, fed-asked, fed-painted}
 use Rattle.window.proofs.painter.feed.Statement.{statement}
@@ -32,13 +32,13 @@ since-newline-requires c κs = omega (arith, c .before .before .before .before .
 returns-2 : tie.Need-returns-2
 returns-2 c =
     let args = c .before .before .before .before .before .before .args in
-    fed-above (args .f) (args .t .now) (painting (args .pen) (args .screen .now)) (c .before .before .count-newlines .ensures)
+    fed-above (args .f) (args .t .now) (sheet (args .pen) (args .screen .now)) (c .before .before .count-newlines .ensures)
     (c .since-newline .ensures) (c .before .if2 .taken)
 
 line-start-requires : tie.Need-line-start-requires
 line-start-requires c κs =
     let args = c .before .before .before .before .before .args in
-    fed-lines (args .f) (args .t .now) (painting (args .pen) (args .screen .now)) (c .before .count-newlines .ensures)
+    fed-lines (args .f) (args .t .now) (sheet (args .pen) (args .screen .now)) (c .before .count-newlines .ensures)
     (c .before .before .if1 .left) (c .if2 .left)
 
 sub-draw : tie.Need-sub-draw
@@ -53,7 +53,7 @@ part-draw-end c = search needs
 -- The window's first line starts where the drawing does.
 starts : (c : tie.After-line-start)
     → let args = c .before .before .before .before .before .before .args in
-    FirstLine (args .f) (args .t .now) (painting (args .pen) (args .screen .now)) (c .line-start .result)
+    FirstLine (args .f) (args .t .now) (sheet (args .pen) (args .screen .now)) (c .line-start .result)
 starts c =
     let counted = c .before .before in
     first-line _ _ _ (counted .count-newlines .ensures) (counted .before .if1 .left) (c .before .if2 .left) (c .line-start .ensures)

@@ -2,13 +2,13 @@
 use mathlib.Core.Path.{sym, _∙_}
 use Prim.Native.Nat.{_+_, _-_}
 use native.Mathlib.Omega.{arith}
-use Rattle.window.specs.Painter.{painting}
+use Rattle.window.specs.Painter.{sheet}
 use Rattle.window.proofs.Laws.Drawing.{Finished, finished-none, end-asks, finished-line, finished-all}
 use Rattle.window.proofs.painter.finish.Statement.{statement}
 use Rattle.window.proofs.painter.finish.Tie as tie
 
 abbrev Inv-loop : tie.InvT-loop
-Inv-loop f screen₀ bottom now₀ y₀ screen now y = Finished f (painting now₀ screen₀) y (painting now screen)
+Inv-loop f screen₀ bottom now₀ y₀ screen now y = Finished f (sheet now₀ screen₀) y (sheet now screen)
 
 abbrev μ-loop : tie.MeasureT-loop
 μ-loop f screen₀ bottom now₀ y₀ screen now y = f .r + f .h - y

@@ -5,7 +5,7 @@ use native.Mathlib.Omega.{arith}
 use lib.ListN.{take, length-take}
 use borrow.Author.Needs.{needs}
 use Rattle.window.specs.declared.Pen.{Pen}
-use Rattle.window.specs.Painter.{painting}
+use Rattle.window.specs.Painter.{sheet}
 use Rattle.window.proofs.Laws.Pieces.{Fed, fed-none, fed-next, fed-on, fed-all, front-short, tail-short, main-pieces}
 use Rattle.window.proofs.painter.paint_main.Statement.{statement}
 use Rattle.window.proofs.painter.paint_main.Tie as tie
@@ -16,7 +16,7 @@ module _ (start : tie.Start) where
   left = take (start .args .l) (start .args .text .now)
 
   abbrev Painted : ℕ → List ℕ → Pen → List ℕ → Type 0
-  Painted k text pen screen = Fed (start .args .f) (start .args .screen .now) k text (painting pen screen)
+  Painted k text pen screen = Fed (start .args .f) (start .args .screen .now) k text (sheet pen screen)
 
 none : (c : tie.After-fresh) → let start = c .before .before .before in Painted start 2 [] (c .fresh .result) (start .args .screen .now)
 none c = fed-none 2 (omega arith) (c .before .before .before .pre .0) (c .fresh .ensures)

@@ -8,7 +8,7 @@ use borrow.Author.Needs.{needs}
 use Rattle.gap.specs.Lines.{newline}
 use Rattle.gap.proofs.Laws.Runs.{tailOf}
 use Rattle.window.specs.declared.Pen.{Pen}
-use Rattle.window.specs.Painter.{painting}
+use Rattle.window.specs.Painter.{sheet}
 use Rattle.window.proofs.Laws.Pieces.{Fed, fed-none, fed-next, fed-on, fed-all, front-short, tail-short, quoted-pieces}
 use Rattle.window.proofs.painter.paint_quoted.Statement.{statement}
 use Rattle.window.proofs.painter.paint_quoted.Tie as tie
@@ -31,7 +31,7 @@ module _ (start : tie.Start) where
   text₅ = text₄ ++ (newline ∷ [])
 
   abbrev Painted : ℕ → List ℕ → Pen → List ℕ → Type 0
-  Painted k text pen screen = Fed (start .args .f) (start .args .screen .now) k text (painting pen screen)
+  Painted k text pen screen = Fed (start .args .f) (start .args .screen .now) k text (sheet pen screen)
 
   -- No piece is long.
   text-short : length (start .args .text .now) ≤ 2 ^ 20

@@ -3,7 +3,7 @@ use mathlib.Core.List.{List}
 use Prim.Native.Nat.{ℕ}
 use borrow.Author.Needs.{needs}
 use Rattle.window.specs.declared.Pen.{Pen}
-use Rattle.window.specs.Painter.{painting}
+use Rattle.window.specs.Painter.{sheet}
 use Rattle.window.proofs.Laws.Refresh.{main-held, quoted-held, quarter-size, quoted-asked}
 use Rattle.window.proofs.Laws.Refresh.{AllPainted, all-painted, finish-asked, refreshed}
 use Rattle.window.proofs.painter.refresh.Statement.{statement}
@@ -13,7 +13,7 @@ use Rattle.window.proofs.painter.refresh.Tie as tie
 abbrev Painted : tie.Start → Pen → List ℕ → Type 0
 Painted start pen screen =
     let args = start .args in
-    AllPainted (args .f) (args .n) (args .text .now) (args .side .now) (args .screen .now) (painting pen screen)
+    AllPainted (args .f) (args .n) (args .text .now) (args .side .now) (args .screen .now) (sheet pen screen)
 
 in-main : (c : tie.After-paint-main)
     → Painted (c .before .before .before .before .before .before .before .before .before) (c .paint-main .result)
