@@ -17,4 +17,9 @@ pub mod KeyCall
 pub mod HostNumbers
 pub mod OpeningCall
 pub mod Sequences
+pub mod Paintable
 pub mod PaintCall
+pub mod Machine
+pub mod SentRows
+pub mod SentScreen
+pub mod SentViews

@@ -3,13 +3,14 @@ pub mod Words
 pub mod Window
 pub mod Rows
 pub mod Core
-pub mod Promise
 pub mod Painter
 pub mod Calls
 pub mod Host
 pub mod Terminal
 pub mod Sequences
 pub mod Painting
+pub mod Promise
 pub mod Machine
 pub mod Writing
 pub mod Table
+pub mod PaintSamples

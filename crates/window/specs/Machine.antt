@@ -29,8 +29,8 @@ reads m r = record { shows = m .shows; row = m .row; column = m .column; reading
 
 -- A byte that is printed goes into the cell, and the next goes right of it; at the last column the place stays, so that it neither
 -- wraps nor scrolls. Any other byte but ESC does nothing.
-abbrev pub shown : ℕ → ℕ → Machine → Machine
-shown W b m =
+abbrev pub cellShown : ℕ → ℕ → Machine → Machine
+cellShown W b m =
     record {
       shows = set (m .shows) ((m .row - 1) * W + (m .column - 1)) b;
       row = m .row;
@@ -39,7 +39,7 @@ shown W b m =
     }
 
 abbrev pub cellRead : ℕ → ℕ → Machine → Machine
-cellRead W b m = cond (eqb b 27) (reads m escape) (cond (printable b) (shown W b m) m)
+cellRead W b m = cond (eqb b 27) (reads m escape) (cond (printable b) (cellShown W b m) m)
 
 -- A place that is off the screen becomes the nearest that is on it.
 abbrev pub within : ℕ → ℕ → ℕ

@@ -74,15 +74,15 @@ pub fn put_place(row: usize, column: usize, out: &mut [u8], at: usize) -> usize
     put(b"H", out, column_end)
 }
 
-// Row i: its place and its cells.
-fn put_row(w: usize, i: usize, screen: &[u8], out: &mut [u8], at: usize) -> usize
-    requires { ⌜ (0 < i) × (i * w ≤ length (now screen)) ⌝ }
-    requires { ⌜ at + length (sentRow w (now screen) i) ≤ length (now out) ⌝ }
-    ensures { λ next. ⌜ Wrote at (sentRow w (now (screen .entry)) i) (now (out .entry)) next (now (out .exit)) ⌝ }
+// The row below so many others: its place and its cells.
+fn put_row(w: usize, above: usize, screen: &[u8], out: &mut [u8], at: usize) -> usize
+    requires { ⌜ (above < 64) × (above * w + w ≤ length (now screen)) ⌝ }
+    requires { ⌜ at + length (sentRow w (now screen) (above + 1)) ≤ length (now out) ⌝ }
+    ensures { λ next. ⌜ Wrote at (sentRow w (now (screen .entry)) (above + 1)) (now (out .entry)) next (now (out .exit)) ⌝ }
 {
-    let cells_at = put_place(i, 1, out, at);
-    let to = i * w;
-    put(&screen[to - w..to], out, cells_at)
+    let cells_at = put_place(above + 1, 1, out, at);
+    let from = above * w;
+    put(&screen[from..from + w], out, cells_at)
 }
 
 // The named rows, one behind the other.
@@ -102,7 +102,7 @@ pub fn put_rows(
     let mut next = at;
     let mut i = 0;
     while i < rows {
-        next = put_row(w, first + i, screen, out, next);
+        next = put_row(w, first - 1 + i, screen, out, next);
         i += 1;
     }
     next

@@ -24,7 +24,7 @@ value-append n [] t = refl
 value-append n (b ∷ s) t = value-append (n * 10 + (b - 48)) s t
 
 -- The digits of a number are worth it.
-value-decimal : (n : ℕ) → value (decimal n) ≡ n
+pub value-decimal : (n : ℕ) → value (decimal n) ≡ n
 unfolding valueAfter
 value-decimal =
     by-tenths (λ n. value (decimal n) ≡ n)

@@ -1,25 +1,25 @@
 -- The call that writes bytes for a terminal: what its tests refuse, and what it writes.
 use mathlib.Core.Path.{_≡_, refl, sym, ap, _∙_}
-use mathlib.Core.Logic.{⊎-elim}
 use mathlib.Core.Bool.{Bool, true, false, not, _&&_}
 use mathlib.Core.List.{List, _++_}
 use Prim.Native.Nat.{ℕ, _+_, _*_, _≤_, _<_}
 use native.Mathlib.Nat.{mul-le-mul-right}
 use native.Mathlib.Omega.{arith}
-use lib.Dec.{eqb, leb, ltb}
+use lib.Dec.{eqb}
 use lib.ListN.{length}
-use borrow.Author.Tests.{eqb-true, leb-true, le-leb, lt-leb, not-true, not-false, ltb-true}
+use borrow.Author.Tests.{le-leb, lt-leb, not-true, not-false}
 use Rattle.gap.specs.declared.Search.{Search}
 use Rattle.gap.specs.declared.Search.the-variants.{Reached, Nowhere}
 use Rattle.gap.specs.Sequence.{patch}
 use Rattle.gap.specs.Written.{Wrote}
-use Rattle.gap.proofs.Laws.Tests.{decided, and-left, and-right, or-cases, cond-true, cond-false}
+use Rattle.gap.proofs.Laws.Tests.{cond-true, cond-false}
 use Rattle.editor.specs.Plain.{SIZE, TEXT}
 use Rattle.window.specs.declared.PaintAnswer.{PaintAnswer}
 use Rattle.window.specs.Core.{rowsAndColumns}
 use Rattle.window.specs.Sequences.{placed, namedRows, sentRows, sentColumn, painted}
 use Rattle.window.specs.Painting.{Painting, ROOM, rowsOn, cursorOn, paintable, badCell, paintedInto, unlessBadCell, painting}
 use Rattle.window.specs.Writing.{RowsIn, paintedSize, paintingOf}
+use Rattle.window.proofs.Laws.Paintable.{Paintable, paintable-facts, sent-on}
 use Rattle.window.proofs.Laws.Sequences.{cursor-place-short, named-most, rows-most, painted-size}
 
 -- ---- SIZE
@@ -36,75 +36,28 @@ module _ (H W first last row column : ℕ) (screen : List ℕ) where
   unfolding paintable
   paintable-so good rows-so cursor-so = rw (rows-so, cursor-so, good)
 
--- What the test tells of the numbers.
-pub record Paintable (H W first last row column : ℕ) (screen : List ℕ) : Type 0 where
-  pub tall : H ≤ 64
-  pub wide : W ≤ 256
-  pub long : length screen ≡ H * W
-  pub ordered : first ≤ last
-  pub high : last ≤ H
-  pub bottom : row ≤ H
-  pub edge : column ≤ W
-
--- Rows in their order, or 0 and 0, which are too.
-rows-told : (H first last : ℕ) → rowsOn H first last ≡ true → (first ≤ last) × (last ≤ H)
-rows-told H first last e =
-    ⊎-elim
-    (λ none.
-    let no-first = eqb-true first 0 (and-left (eqb first 0) _ none) in
-    let no-last = eqb-true last 0 (and-right (eqb first 0) _ none) in
-    omega arith)
-    (λ run. let behind = and-right (leb 1 first) _ run in
-    (leb-true first last (and-left (leb first last) _ behind), leb-true last H (and-right (leb first last) _ behind)))
-    (or-cases (eqb first 0 && eqb last 0) _ e)
-
--- The column that is sent is one of the screen's.
-column-sent : (W column : ℕ) → column ≤ W → sentColumn W column ≤ W
-column-sent W column edge =
-    ⊎-elim
-    (λ inside. rw (cond-true (column + 1) W inside) (omega (arith, ltb-true column W inside)))
-    (λ behind. rw (cond-false (column + 1) W behind) (omega arith))
-    (decided (ltb column W))
-
 module _ (H W first last row column : ℕ) (screen : List ℕ) (e : paintable H W first last row column screen ≡ true) where
-  pub paintable-facts : Paintable H W first last row column screen
-  unfolding paintable
-  paintable-facts =
-      let sizes = and-left (rowsAndColumns H W && eqb (length screen) (H * W)) _ e in
-      let places = and-right (rowsAndColumns H W && eqb (length screen) (H * W)) _ e in
-      let frame = and-left (rowsAndColumns H W) _ sizes in
-      let columns = and-right (leb 1 H && leb H 64) _ frame in
-      let rows = rows-told H first last (and-left (rowsOn H first last) _ places) in
-      let cursor = and-right (leb 1 row) _ (and-right (rowsOn H first last) _ places) in
-      record {
-        tall = leb-true H 64 (and-right (leb 1 H) _ (and-left (leb 1 H && leb H 64) _ frame));
-        wide = leb-true W 256 (and-right (leb 1 W) _ columns);
-        long = eqb-true _ _ (and-right (rowsAndColumns H W) _ sizes);
-        ordered = rows .0;
-        high = rows .1;
-        bottom = leb-true row H (and-left (leb row H) _ cursor);
-        edge = leb-true column W (and-right (leb row H) _ cursor);
-      }
+  abbrev facts : Paintable H W first last row column screen
+  facts = paintable-facts H W first last row column screen e
 
   -- What the functions that count and write ask of the rows.
   pub rows-in : RowsIn W first last screen
   rows-in =
-      let facts = paintable-facts in
       record {
         ordered = facts .ordered;
-        few = omega arith;
-        wide = facts .wide;
-        inside = omega (arith, facts .long, mul-le-mul-right W (facts .high));
+        few = omega (arith, facts .inside, facts .few);
+        wide = facts .narrow;
+        inside = omega (arith, facts .long, mul-le-mul-right W (facts .inside));
       }
 
   -- A buffer that is always large enough: for a row its W cells and 7 bytes for its place, and 9 for the cursor's.
-  pub enough : length (painted W first last row column screen) ≤ H * (W + 7) + 9
+  pub enough-room : length (painted W first last row column screen) ≤ H * (W + 7) + 9
   unfolding paintedSize
-  enough =
-      let facts = paintable-facts in
+  enough-room =
+      let told = facts in
       let few : namedRows first last ≤ H = omega (arith, named-most first last) in
-      let rows = rows-most W first last (facts .ordered) (omega arith) refl (namedRows first last) (omega arith) in
-      let place = cursor-place-short row (sentColumn W column) (omega arith) (omega (arith, column-sent W column (facts .edge))) in
+      let rows = rows-most W first last (told .ordered) (omega arith) refl (namedRows first last) (omega arith) in
+      let place = cursor-place-short row (sentColumn W column) (omega arith) (omega (arith, sent-on W column (told .wide))) in
       omega (arith, painted-size row column rows-in, mul-le-mul-right (W + 7) few)
 
 -- ---- ROOM

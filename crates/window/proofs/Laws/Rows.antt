@@ -2,11 +2,11 @@
 use mathlib.Core.Path.{_≡_, refl, sym, ap, _∙_}
 use mathlib.Core.Logic.{_≢_}
 use mathlib.Core.Bool.{Bool, true, false}
-use mathlib.Core.List.{List, _++_}
+use mathlib.Core.List.{List, [], _++_, append-nil}
 use Prim.Native.Nat.{ℕ, zero, suc, _+_, _-_, _*_, _≤_, _<_}
 use native.Mathlib.Nat.{zero-mul, suc-mul, add-mul}
 use native.Mathlib.Omega.{arith}
-use lib.ListN.{length, take, drop, length-drop, take-append-drop}
+use lib.ListN.{length, take, drop, length-drop, drop-of-length-le, take-append-drop}
 use lib.Seq.{take-all, take-add, drop-drop}
 use borrow.Author.Tests.{not-true, not-false, ne-eqb}
 use Rattle.gap.specs.Sequence.{sameBytes, part}
@@ -28,7 +28,7 @@ changed-differs W old new i e same =
     clash (ap (λ row. sameBytes (screenRow W i old) row) (sym same) ∙ same-refl (screenRow W i old)) (not-true _ e)
 
 -- A run of rows is its first row and the rows below that.
-run-split : (W a n : ℕ) (s : List ℕ) → part (a * W) (suc n * W) s ≡ screenRow W (suc a) s ++ part (suc a * W) (n * W) s
+pub run-split : (W a n : ℕ) (s : List ℕ) → part (a * W) (suc n * W) s ≡ screenRow W (suc a) s ++ part (suc a * W) (n * W) s
 unfolding part
 run-split W a n s =
     let here : suc a - 1 ≡ a = omega arith in
@@ -140,3 +140,12 @@ module _ (H W : ℕ) (old new : List ℕ) (old-size : length old ≡ H * W) (new
   -- A terminal that shows the old screen and repaints the named rows shows the new one.
   pub repainted : repaint W (firstRow H W old new) (lastRow H W old new) new old ≡ new
   repainted = repaint-named _ _ (named H W old new)
+
+  -- Where every row is named it shows the new one, whatever it showed before.
+  pub repaint-all : 1 ≤ H → repaint W 1 H new old ≡ new
+  unfolding repaint part
+  repaint-all some =
+      let rows : suc H - 1 ≡ H = omega arith in
+      let screen : take (H * W) new ≡ new = take-all (H * W) new (omega arith) in
+      let left : drop (H * W) old ≡ [] = drop-of-length-le old {i = H * W} (omega arith) in
+      rw (zero-mul, rows, screen, left) (append-nil new)

@@ -42,39 +42,35 @@ cursor-place-short row column rows columns =
 
 -- ---- A row
 
--- Where a row ends, the next begins.
-row-end : (i W : ℕ) → 0 < i → (i - 1) * W + W ≡ i * W
-row-end zero W some = absurd (omega arith)
-row-end (suc i) W some = let same : suc i - 1 ≡ i = omega arith in rw (same, suc-mul)
+-- The row below so many others.
+module _ (W above : ℕ) (screen : List ℕ) (inside : above * W + W ≤ length screen) where
+  -- Rows count from 1, the cells of the screen from 0.
+  row-cells : screenRow W (above + 1) screen ≡ part (above * W) W screen
+  row-cells = let same : above + 1 - 1 ≡ above = omega arith in rw same
 
-module _ (W i : ℕ) (screen : List ℕ) (some : 0 < i) (inside : i * W ≤ length screen) where
-  pub row-wide : W ≤ i * W
-  row-wide = omega (arith, row-end i W some)
+  row-length : length (screenRow W (above + 1) screen) ≡ W
+  row-length = rw row-cells (length-part (above * W) W screen inside)
 
-  length-sent : length (sentRow W screen i) ≡ length (placed i 1) + W
+  length-sent : length (sentRow W screen (above + 1)) ≡ length (placed (above + 1) 1) + W
   unfolding sentRow
-  length-sent = rw (length-append, length-part ((i - 1) * W) W screen (omega (arith, row-end i W some)))
+  length-sent = rw (length-append, row-length)
 
-  -- The part of a screen that is lent as its row i, as the checker has it.
-  row-lent : midOf (i * W - W) (i * W - (i * W - W)) screen ≡ screenRow W i screen
+  -- The part of the screen that is lent for it, as the checker has it.
+  row-lent : midOf (above * W) (above * W + W - above * W) screen ≡ screenRow W (above + 1) screen
   unfolding part
-  row-lent =
-      let start : i * W - W ≡ (i - 1) * W = omega (arith, row-end i W some) in
-      let size : i * W - (i - 1) * W ≡ W = omega (arith, row-end i W some) in rw (start, size)
+  row-lent = let size : above * W + W - above * W ≡ W = omega arith in rw (row-cells, size)
 
   -- A room for the row has room for its place, and then for its cells.
-  pub place-room : (at : ℕ) {room : ℕ} → at + length (sentRow W screen i) ≤ room → at + length (placed i 1) ≤ room
+  pub place-room : (at : ℕ) {room : ℕ} → at + length (sentRow W screen (above + 1)) ≤ room → at + length (placed (above + 1) 1) ≤ room
   place-room at room = omega (arith, length-sent)
 
-  pub cells-room : {at cells-at : ℕ} {old mid : List ℕ} → at + length (sentRow W screen i) ≤ length old
-      → Wrote at (placed i 1) old cells-at mid → cells-at + length (midOf (i * W - W) (i * W - (i * W - W)) screen) ≤ length mid
-  cells-room room place-is =
-      let cells : length (screenRow W i screen) ≡ W = length-part ((i - 1) * W) W screen (omega (arith, row-end i W some)) in
-      rw row-lent (omega (arith, length-sent, place-is .place, wrote-length place-is))
+  pub cells-room : {at cells-at : ℕ} {old mid : List ℕ} → at + length (sentRow W screen (above + 1)) ≤ length old
+      → Wrote at (placed (above + 1) 1) old cells-at mid → cells-at + length (midOf (above * W) (above * W + W - above * W) screen) ≤ length mid
+  cells-room room place-is = rw row-lent (omega (arith, row-length, length-sent, place-is .place, wrote-length place-is))
 
   -- The place and then the cells are the row.
-  pub row-wrote : {at cells-at next : ℕ} {old mid new : List ℕ} → Wrote at (placed i 1) old cells-at mid
-      → Wrote cells-at (midOf (i * W - W) (i * W - (i * W - W)) screen) mid next new → Wrote at (sentRow W screen i) old next new
+  pub row-wrote : {at cells-at next : ℕ} {old mid new : List ℕ} → Wrote at (placed (above + 1) 1) old cells-at mid
+      → Wrote cells-at (midOf (above * W) (above * W + W - above * W) screen) mid next new → Wrote at (sentRow W screen (above + 1)) old next new
   unfolding sentRow
   row-wrote place-is cells-are = then place-is (rw row-lent at cells-are)
 
@@ -102,15 +98,19 @@ module _ (first last : ℕ) where
   pub named-row : {rows i : ℕ} → rows ≡ namedRows first last → i < rows → (0 < first + i) × (first + i ≤ last)
   named-row named more = ⊎-elim (λ none. omega arith) (λ some. omega arith) (count first last)
 
--- Each of them is a row of the screen, and its number is small.
-pub row-inside : {W first last : ℕ} {screen : List ℕ} → RowsIn W first last screen → {rows i : ℕ}
-    → rows ≡ namedRows first last → i < rows → (0 < first + i) × ((first + i) * W ≤ length screen)
-row-inside {W} {first} {last} within named more =
-    let here = named-row first last named more in (here .0, omega (arith, within .inside, mul-le-mul-right W (here .1)))
+-- Each of them is a row of the screen, with fewer than 64 above it.
+module _ {W first last : ℕ} {screen : List ℕ} (within : RowsIn W first last screen) {rows i : ℕ} (named : rows ≡ namedRows first last) (more : i < rows) where
+  pub some-first : 1 ≤ first
+  some-first = ⊎-elim (λ none. omega arith) (λ some. some .0) (count first last)
 
-pub row-few : {W first last : ℕ} {screen : List ℕ} → RowsIn W first last screen → {rows i : ℕ}
-    → rows ≡ namedRows first last → i < rows → first + i ≤ 64
-row-few {W} {first} {last} within named more = omega (arith, within .few, named-row first last named more)
+  pub row-number : first - 1 + i + 1 ≡ first + i
+  row-number = omega (arith, some-first)
+
+  pub row-inside : (first - 1 + i < 64) × ((first - 1 + i) * W + W ≤ length screen)
+  row-inside =
+      let here = named-row first last named more in
+      let end : suc (first - 1 + i) * W ≤ last * W = mul-le-mul-right W (omega (arith, row-number)) in
+      omega (arith, within .few, within .inside, row-number, suc-mul (first - 1 + i) W)
 
 -- ---- Rows one behind the other
 
@@ -181,10 +181,11 @@ length-rows : (W last n k : ℕ) (screen : List ℕ) → last * W ≤ length scr
     → length (rowsFrom W screen n k) ≡ rowsSize W n k
 unfolding joined counted rowsSize
 length-rows W last zero k screen inside some few = refl
-length-rows W last (suc n) k screen inside some few =
-    let low : k ≤ last = omega arith in
-    let within : k * W ≤ length screen = omega (arith, mul-le-mul-right W low) in
-    rw (length-append, length-sent W k screen some within, length-rows W last n (suc k) screen inside (omega arith) (omega arith))
+length-rows W last (suc n) zero screen inside some few = absurd (omega arith)
+length-rows W last (suc n) (suc a) screen inside some few =
+    let end : suc a * W ≤ last * W = mul-le-mul-right W (omega arith) in
+    let row = length-sent W a screen (omega (arith, suc-mul a W)) in
+    rw (length-append, rw add-one at row, length-rows W last n (suc (suc a)) screen inside (omega arith) (omega arith))
 
 pub length-named : {W first last : ℕ} {screen : List ℕ} → RowsIn W first last screen
     → length (sentRows W first last screen) ≡ rowsSize W (namedRows first last) first

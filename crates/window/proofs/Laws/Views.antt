@@ -31,7 +31,7 @@ pub record Tabled (H W : ℕ) (b : Lent) : Type 0 where
   pub frame : rowsAndColumns H W ≡ true
   pub long : length (b .screen) ≡ H * W
 
-some-rows : (H W : ℕ) → rowsAndColumns H W ≡ true → 1 ≤ H
+pub some-rows : (H W : ℕ) → rowsAndColumns H W ≡ true → 1 ≤ H
 some-rows H W e = leb-true 1 H (and-left _ _ (and-left _ _ e))
 
 pub tabled-facts : (H W : ℕ) (b : Lent) → tabled H W b ≡ true → Tabled H W b

@@ -12,6 +12,7 @@ use borrow.Author.Tests.{leb-true, not-true, not-false}
 use Rattle.gap.specs.declared.Search.{Search}
 use Rattle.gap.specs.declared.Search.the-variants.{Reached, Nowhere}
 use Rattle.gap.specs.Sequence.{every}
+use Rattle.gap.specs.Nearest.{nearest}
 use Rattle.gap.specs.Layout.{allowed}
 use Rattle.gap.proofs.Laws.Tests.{decided, clash}
 use Rattle.gap.proofs.Laws.Sequence.{every-at, at-every}
@@ -26,18 +27,19 @@ use Rattle.window.proofs.Laws.Order.{Check, check, firstFailed, Passing
 
 -- ---- opening
 
-abbrev none : Search → Bool
+abbrev pub none : Search → Bool
 none (Reached i) = false
 none Nowhere = true
 
--- No bad byte is found exactly when each of the first n bytes is allowed.
-no-bad-byte : (n : ℕ) (text : List ℕ) → n ≤ length text → none (badByte n text) ≡ every allowed (take n text)
-no-bad-byte n text h = go (badByte n text) refl
+-- A search for a byte that fails a test finds none exactly when each of the first n bytes passes.
+pub none-fails : (test : ℕ → Bool) (n : ℕ) (text : List ℕ) → n ≤ length text
+    → none (nearest (λ i. not (test (getD text i 0))) n 0) ≡ every test (take n text)
+none-fails test n text h = go (nearest (λ i. not (test (getD text i 0))) n 0) refl
   where
     bytes : length (take n text) ≡ n
     bytes = length-take-le n text h
 
-    go : (s : Search) → badByte n text ≡ s → none s ≡ every allowed (take n text)
+    go : (s : Search) → nearest (λ i. not (test (getD text i 0))) n 0 ≡ s → none s ≡ every test (take n text)
     go (Reached i) e =
         let least = reached-least _ n 0 i e in
         let below : i < n = omega (arith, least .within) in
@@ -45,17 +47,17 @@ no-bad-byte n text h = go (badByte n text) refl
         ⊎-elim
         (λ sound.
         clash
-        (sym (ap allowed (getD-take n text i 0 below)) ∙ every-at allowed (take n text) i sound short)
+        (sym (ap test (getD-take n text i 0 below)) ∙ every-at test (take n text) i sound short)
         (not-true _ (least .passes)))
         (λ bad. sym bad)
-        (decided (every allowed (take n text)))
+        (decided (every test (take n text)))
     go Nowhere e =
         sym
-        (at-every allowed (take n text)
+        (at-every test (take n text)
         (λ i short.
         let below : i < n = omega (arith, bytes) in
         let high : i < 0 + n = omega arith in
-        ap allowed (getD-take n text i 0 below) ∙ not-false _ (nowhere-none _ n 0 e i zero-le high)))
+        ap test (getD-take n text i 0 below) ∙ not-false _ (nowhere-none _ n 0 e i zero-le high)))
 
 -- The checks of opening, in order.
 abbrev openingChecks : ℕ → ℕ → ℕ → Lent → List Check
@@ -87,7 +89,7 @@ module _ (n H W : ℕ) (b : Lent) where
   unfolding opened choice
   opening-code =
       code-of (tabled H W b) (leb n (T (b .stores))) (badByte n (b .stores .text))
-      ∙ last-check _ _ _ _ (λ e. no-bad-byte n (b .stores .text) (leb-true n (T (b .stores)) e))
+      ∙ last-check _ _ _ _ (λ e. none-fails allowed n (b .stores .text) (leb-true n (T (b .stores)) e))
 
   -- 01, refusals: opening checks SIZE, LONG, TEXT; each number is given exactly when its check is the first to fail.
   pub opening-size : (opened n H W b .answer .code ≡ SIZE) ↔ (Passing [] × (tabled H W b ≡ false))

@@ -4,7 +4,7 @@ use native.Mathlib.Omega.{arith}
 use borrow.Author.Needs.{needs}
 use Rattle.gap.proofs.Laws.Writers.{wrote-length}
 use Rattle.window.specs.Sequences.{sentRows}
-use Rattle.window.proofs.Laws.Sequences.{RowsSent, row-inside, row-few, sent-none, sent-room, sent-more, sent-all}
+use Rattle.window.proofs.Laws.Sequences.{RowsSent, some-first, row-number, row-inside, sent-none, sent-room, sent-more, sent-all}
 use Rattle.window.proofs.sequences.put_rows.Statement.{statement}
 use Rattle.window.proofs.sequences.put_rows.Tie as tie
 
@@ -20,10 +20,15 @@ named-rows-requires c κs = search needs
 loop-holds : tie.Need-loop-holds Inv-loop μ-loop
 loop-holds c = sent-none (omega (arith, c .before .before .before .pre .1))
 
+sub-put-row : tie.Need-sub-put-row Inv-loop μ-loop
+sub-put-row c =
+    let counted = c .before .before in
+    some-first (counted .before .before .before .pre .0) (counted .named-rows .ensures) (c .loop-test .taken)
+
 add-put-row : tie.Need-add-put-row Inv-loop μ-loop
 add-put-row c =
     let counted = c .before .before in
-    record { fits = omega (arith, row-few (counted .before .before .before .pre .0) (counted .named-rows .ensures) (c .loop-test .taken)) }
+    record { fits = omega (arith, row-inside (counted .before .before .before .pre .0) (counted .named-rows .ensures) (c .loop-test .taken)) }
 
 put-row-requires : tie.Need-put-row-requires Inv-loop μ-loop
 unfolding sentRows
@@ -32,7 +37,9 @@ put-row-requires c κs =
     let counted = turn .before .before in
     let asked = counted .before .before .before .pre in (
       row-inside (asked .0) (counted .named-rows .ensures) (turn .loop-test .taken),
-      sent-room (turn .before .loop .inv) (turn .loop-test .taken) (rw (counted .named-rows .ensures) (asked .1)),
+      rw (row-number (asked .0) (counted .named-rows .ensures) (turn .loop-test .taken)) (
+          sent-room (turn .before .loop .inv) (turn .loop-test .taken) (rw (counted .named-rows .ensures) (asked .1))
+          ),
     )
 
 add-i : tie.Need-add-i Inv-loop μ-loop
@@ -43,7 +50,10 @@ loop-less c = omega arith
 
 loop-again : tie.Need-loop-again Inv-loop μ-loop
 loop-again c =
-    let turn = c .before .before .before .before in sent-more (turn .before .loop .inv) (turn .loop-test .taken) (c .before .before .put-row .ensures)
+    let turn = c .before .before .before .before in
+    let counted = turn .before .before in
+    let number = row-number (counted .before .before .before .pre .0) (counted .named-rows .ensures) (turn .loop-test .taken) in
+    sent-more (turn .before .loop .inv) (turn .loop-test .taken) (rw number at (c .before .before .put-row .ensures))
 
 same-length : tie.Need-same-length Inv-loop μ-loop
 same-length c = wrote-length (c .before .loop .inv .wrote)
@@ -60,6 +70,7 @@ put-rows-spec =
     μ-loop
     named-rows-requires
     loop-holds
+    sub-put-row
     add-put-row
     put-row-requires
     add-i

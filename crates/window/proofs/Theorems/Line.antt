@@ -1,0 +1,180 @@
+-- Demand 3 on a line: a simple terminal that is sent the routine's bytes after each call shows the window of the plain document
+-- after the same keys, refused ones skipped, with its cursor. (02, M-100: proved.)
+use mathlib.Core.Path.{_≡_, refl, ap, ap₂, subst⁻¹, _∙_}
+use mathlib.Core.Bool.{true, and-false}
+use mathlib.Core.List.{List, [], _∷_}
+use Prim.Native.Nat.{ℕ, _*_, _≤_}
+use native.Mathlib.Omega.{arith}
+use lib.ListN.{length, take}
+use borrow.Author.Tests.{le-leb}
+use Rattle.gap.proofs.Laws.Tests.{cond-true}
+use Rattle.editor.specs.declared.Key.{Key}
+use Rattle.editor.specs.Plain.{Plain, Outcome, refused, done, SIZE}
+use Rattle.editor.specs.Keys.{soundKey, pressed, fits, bounded, key}
+use Rattle.editor.specs.Bytes.{quarter}
+use Rattle.window.specs.Words.{Session}
+use Rattle.window.specs.Window.{policy}
+use Rattle.window.specs.Core.{Lent, Called, T, lentOf, openedText, opened, finished, shown, keyed}
+use Rattle.window.specs.Terminal.{View, openingView, repaint, looked, viewed, picture}
+use Rattle.window.specs.Sequences.{sentColumn, painted}
+use Rattle.window.specs.Painting.{Painting, rowsOn, paintable, unpainted, painting}
+use Rattle.window.specs.Machine.{Machine, cells, feed, Line, bytesAfter, sent, openedLine, struckLine, typedLine, showing, enough}
+use Rattle.window.proofs.Laws.Window.{length-window}
+use Rattle.window.proofs.Laws.Rows.{repainted, repaint-all}
+use Rattle.window.proofs.Laws.Views.{some-rows, Good, recordOf, storesWith, viewOf, session-view, view-keyed, view-size, looked-good}
+use Rattle.window.proofs.Laws.Machine.{machine}
+use Rattle.window.proofs.Laws.SentScreen.{painted-shown}
+use Rattle.window.proofs.Laws.PaintCall.{enough-room}
+use Rattle.window.proofs.Laws.SentViews.{cursorRow, cursorColumn, changed-on, every-on, view-paintable}
+use Rattle.window.proofs.Theorems.Refusals.{opening-done, opening-leaves, key-accepted, key-leaves}
+use Rattle.window.proofs.Theorems.Sessions.{opening-view, session-keyed}
+use Rattle.window.proofs.Theorems.DemandThree.{picture-printable, key-good}
+use Rattle.window.proofs.Theorems.Painting.{painting-accepted, painting-writes}
+
+-- ---- What the routine gives after a call
+
+-- After a refusal it is asked for a cursor in row 0, and so it writes nothing.
+off-screen : (H W first last column : ℕ) (screen buffer : List ℕ)
+    → painting H W first last 0 column screen buffer ≡ unpainted SIZE 0 buffer
+unfolding painting paintable
+off-screen H W first last column screen buffer = rw (and-false (rowsOn H first last), and-false)
+
+-- A good view, some of its rows named, and a buffer with enough room.
+module _ (size : ℕ) (v : View) (good : Good size v) (first last : ℕ) (rows : rowsOn (v .frame .h) first last ≡ true) (buffer : List ℕ) (room : enough (v .frame .h) (v .frame .w) ≤ length buffer) where
+  abbrev run : List ℕ
+  run = painted (v .frame .w) first last (cursorRow v) (cursorColumn v) (picture v)
+
+  abbrev answer : Painting
+  answer = painting (v .frame .h) (v .frame .w) first last (cursorRow v) (cursorColumn v) (picture v) buffer
+
+  fit : paintable (v .frame .h) (v .frame .w) first last (cursorRow v) (cursorColumn v) (picture v) ≡ true
+  fit = view-paintable size v good first last rows
+
+  view-sent : answer .code ≡ 0
+  view-sent =
+      let short : length run ≤ length buffer =
+      omega (arith, enough-room (v .frame .h) (v .frame .w) first last (cursorRow v) (cursorColumn v) (picture v) fit) in
+      painting-accepted (v .frame .h) (v .frame .w) first last (cursorRow v) (cursorColumn v) (picture v) buffer .1
+      (fit, (picture-printable size v good, (le-leb (length run) (length buffer) short, tt)))
+
+  -- The terminal reads it.
+  view-fed : (m : Machine) → length (m .shows) ≡ v .frame .h * v .frame .w → m .reading ≡ cells
+      → feed (v .frame .h) (v .frame .w) (take (answer .count) (answer .buffer)) m
+      ≡ machine (repaint (v .frame .w) first last (picture v) (m .shows)) (cursorRow v) (sentColumn (v .frame .w) (cursorColumn v))
+  view-fed m long ready =
+      ap (λ run. feed (v .frame .h) (v .frame .w) run m) (painting-writes _ _ _ _ _ _ _ _ view-sent .front)
+      ∙ painted-shown _ _ _ _ _ _ _ fit (picture-printable size v good) m long ready
+
+  view-buffer : length (answer .buffer) ≡ length buffer
+  view-buffer = painting-writes _ _ _ _ _ _ _ _ view-sent .long
+
+-- ---- The routine after each call: never refused where the call was accepted, and nothing written where it was refused
+
+-- An accepted key is done with what it presses.
+key-done : (size : ℕ) (k : Key) (p : Plain) → soundKey k ≡ true → fits size quarter (pressed k p .state) ≡ true
+    → key size quarter k p ≡ done (pressed k p)
+unfolding key bounded
+key-done size k p sound room = cond-true _ _ sound ∙ cond-true _ _ room
+
+module _ (s : Session) (k : Key) (b : Lent) (buffer : List ℕ) where
+  pub key-sent : keyed s k b .answer .code ≡ 0 → enough (s .frame .h) (s .frame .w) ≤ length buffer
+      → bytesAfter (keyed s k b) buffer .code ≡ 0
+  unfolding finished shown policy
+  key-sent accepts room =
+      let passed = key-accepted s k b .0 accepts in
+      let v = viewOf s (b .stores) in
+      let e = key-done (T (b .stores)) k (v .plain) (passed .1 .1 .0) (passed .1 .1 .1 .0) in
+      let good = looked-good (T (b .stores)) k v (session-view s b (passed .0) (passed .1 .0) .good) (done (pressed k (v .plain))) e in
+      ap (λ o. bytesAfter o buffer .code) (session-keyed s k b (passed .0) (passed .1 .0) ∙ ap (finished s b) e)
+      ∙ view-sent (T (b .stores)) (looked v (done (pressed k (v .plain)))) good _ _ (changed-on _ _ (b .screen) _) buffer room
+
+  pub key-unsent : (keyed s k b .answer .code ≡ 0 → ⊥) → bytesAfter (keyed s k b) buffer ≡ unpainted SIZE 0 buffer
+  key-unsent bad = ap (λ o. bytesAfter o buffer) (key-leaves s k b bad) ∙ off-screen _ _ _ _ _ _ buffer
+
+module _ (n H W : ℕ) (b : Lent) (buffer : List ℕ) where
+  pub opening-sent : opened n H W b .answer .code ≡ 0 → enough H W ≤ length buffer → bytesAfter (opened n H W b) buffer .code ≡ 0
+  unfolding openedText
+  opening-sent accepts room =
+      let good = opening-view n H W b accepts in
+      ap (λ o. bytesAfter o buffer .code) (opening-done n H W b accepts)
+      ∙ view-sent (T (b .stores)) (openingView n H W b) good 1 H (every-on H (some-rows H W (good .tabled))) buffer room
+
+  pub opening-unsent : (opened n H W b .answer .code ≡ 0 → ⊥) → bytesAfter (opened n H W b) buffer ≡ unpainted SIZE 0 buffer
+  opening-unsent bad = ap (λ o. bytesAfter o buffer) (opening-leaves n H W b bad) ∙ off-screen _ _ _ _ _ _ buffer
+
+-- ---- Keys on a line
+
+-- Record, stores and terminal all hold the view, and the buffer has room.
+pub record OnLine (size : ℕ) (v : View) (at : Line) : Type 0 where
+  pub session : at .called .session ≡ recordOf v
+  pub lent : at .called .lent ≡ storesWith size v (picture v)
+  pub room : enough (v .frame .h) (v .frame .w) ≤ length (at .buffer)
+  pub terminal : at .terminal ≡ showing v
+
+abbrev lineAfter : Called → List ℕ → Machine → Line
+lineAfter o buffer m = sent o (bytesAfter o buffer) m
+
+-- One key, from a good view.
+module _ (size : ℕ) (k : Key) (v : View) (good : Good size v) where
+  outcome-line : (o : Outcome) → key size quarter k (v .plain) ≡ o → (buffer : List ℕ) → enough (v .frame .h) (v .frame .w) ≤ length buffer
+      → OnLine size (looked v o) (lineAfter (finished (recordOf v) (storesWith size v (picture v)) o) buffer (showing v))
+  unfolding finished shown policy feed
+  outcome-line (refused n) e buffer room =
+      let none = off-screen (v .frame .h) (v .frame .w) 0 0 0 (picture v) buffer in
+      record {
+        session = refl;
+        lent = refl;
+        room = subst⁻¹ (λ p. enough (v .frame .h) (v .frame .w) ≤ length (p .buffer)) none room;
+        terminal = ap (λ p. feed (v .frame .h) (v .frame .w) (take (p .count) (p .buffer)) (showing v)) none;
+      }
+  outcome-line (done did) e buffer room =
+      let next = looked v (done did) in
+      let good-next = looked-good size k v good (done did) e in
+      let rows = changed-on (v .frame .h) (v .frame .w) (picture v) (picture next) in
+      record {
+        session = refl;
+        lent = ap (λ t. lentOf t (did .state) (next .frame)) (view-size size v good (picture v) (length-window _ _));
+        room = subst⁻¹ (λ n. enough (v .frame .h) (v .frame .w) ≤ n) (view-buffer size next good-next _ _ rows buffer room) room;
+        terminal =
+            view-fed size next good-next _ _ rows buffer room (showing v) (length-window _ _) refl
+            ∙ ap (λ s. machine s (cursorRow next) (sentColumn (v .frame .w) (cursorColumn next)))
+            (repainted (v .frame .h) (v .frame .w) (picture v) (picture next) (length-window _ _) (length-window _ _));
+      }
+
+  key-line : (at : Line) → OnLine size v at → OnLine size (looked v (key size quarter k (v .plain))) (struckLine k at)
+  unfolding struckLine
+  key-line at on =
+      let o = ap₂ (λ s b. keyed s k b) (on .session) (on .lent) ∙ view-keyed size v good (picture v) (length-window _ _) k in
+      subst⁻¹ (OnLine size (looked v (key size quarter k (v .plain)))) (ap₂ (λ c m. lineAfter c (at .buffer) m) o (on .terminal))
+      (outcome-line (key size quarter k (v .plain)) refl (at .buffer) (on .room))
+
+keys-line : (size : ℕ) (ks : List Key) (v : View) (at : Line) → Good size v → OnLine size v at → OnLine size (viewed size ks v) (typedLine ks at)
+unfolding viewed typedLine
+keys-line size [] v at good on = on
+keys-line size (k ∷ ks) v at good on = keys-line size ks _ (struckLine k at) (key-good size k v good) (key-line size k v good at on)
+
+-- After a good open, with room, and a terminal of the screen's size that showed anything: any list of keys.
+module _ (n H W : ℕ) (b : Lent) (accepts : opened n H W b .answer .code ≡ 0) (buffer : List ℕ) (room : enough H W ≤ length buffer) (m : Machine) (long : length (m .shows) ≡ H * W) (ready : m .reading ≡ cells) where
+  opening-line : OnLine (T (b .stores)) (openingView n H W b) (openedLine n H W b buffer m)
+  unfolding openedLine openedText
+  opening-line =
+      let v = openingView n H W b in
+      let good = opening-view n H W b accepts in
+      let some = some-rows H W (good .tabled) in
+      let rows = every-on H some in
+      subst⁻¹ (λ o. OnLine (T (b .stores)) v (lineAfter o buffer m)) (opening-done n H W b accepts)
+      (record {
+        session = refl;
+        lent = refl;
+        room = subst⁻¹ (λ size. enough H W ≤ size) (view-buffer (T (b .stores)) v good 1 H rows buffer room) room;
+        terminal =
+            view-fed (T (b .stores)) v good 1 H rows buffer room m long ready
+            ∙ ap (λ s. machine s (cursorRow v) (sentColumn W (cursorColumn v)))
+            (repaint-all H W (m .shows) (picture v) long (length-window _ _) some);
+      })
+
+  -- The terminal shows the window of the plain document after the same keys, and its cursor.
+  pub demand-three-line : (ks : List Key)
+      → typedLine ks (openedLine n H W b buffer m) .terminal ≡ showing (viewed (T (b .stores)) ks (openingView n H W b))
+  demand-three-line ks =
+      keys-line (T (b .stores)) ks (openingView n H W b) (openedLine n H W b buffer m) (opening-view n H W b accepts) opening-line .terminal
