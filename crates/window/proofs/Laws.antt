@@ -19,6 +19,7 @@ pub mod OpeningCall
 pub mod Sequences
 pub mod Paintable
 pub mod PaintCall
+pub mod Writer
 pub mod Machine
 pub mod SentRows
 pub mod SentScreen

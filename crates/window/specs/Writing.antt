@@ -1,7 +1,10 @@
 -- How the promises of the functions that write for a terminal speak.
 use Prim.Native.Nat.{_≤_}
+use denote.Ref.{now, at-last}
 use Rattle.window.specs.Words.{List, ℕ, zero, suc, _+_, _*_, length}
+use Rattle.gap.specs.Sequence.{patch}
 use Rattle.window.specs.declared.PaintAnswer.{PaintAnswer}
+use Rattle.window.specs.declared.writer.Writer.{Writer}
 use Rattle.window.specs.Sequences.{placed, namedRows, sentColumn}
 use Rattle.window.specs.Painting.{Painting}
 
@@ -19,6 +22,10 @@ rowsSize W (suc n) i = (length (placed i 1) + W) + rowsSize W n (suc i)
 
 unfoldable pub paintedSize : ℕ → ℕ → ℕ → ℕ → ℕ → ℕ
 paintedSize W first last row column = rowsSize W (namedRows first last) first + length (placed row (sentColumn W column))
+
+-- A writer with a run behind what it holds: the same buffer, and the mark behind the run.
+abbrev pub filled : Writer → List ℕ → Writer
+filled w run = record { out = at-last (w .out) (patch (w .at) run (now (w .out))); at = w .at + length run }
 
 -- The answer and the buffer as one value.
 abbrev pub paintingOf : PaintAnswer → List ℕ → Painting

@@ -1,12 +1,55 @@
-// What is sent to a terminal, written from the front of a lent buffer on.
+// A writer holds the lent buffer and its fill mark. It is taken apart and handed to the plain functions on the slice and the place;
+// `write_screen`, with plain parameters, serves every caller.
 use crate::sequences::put_place;
 use crate::sequences::put_rows;
+ghost use mathlib.Core.Path.{_≡_};
 ghost use mathlib.Core.List.{_++_};
-ghost use Prim.Native.Nat.{_≤_};
+ghost use Prim.Native.Nat.{_+_, _≤_};
 ghost use lib.ListN.{length};
 ghost use Rattle.gap.specs.Written.{Wrote};
 ghost use Rattle.window.specs.Sequences.{placed, sentRows};
-ghost use Rattle.window.specs.Writing.{RowsIn};
+ghost use Rattle.window.specs.Writing.{RowsIn, filled};
+
+pub struct Writer<'a> {
+    pub out: &'a mut [u8],
+    pub at: usize,
+}
+
+// An empty writer: the mark stands at the front.
+fn at_front<'a>(out: &'a mut [u8]) -> Writer<'a>
+    ensures { λ r. ⌜ (r .out ≡ out .entry) × (r .at ≡ 0) ⌝ }
+{
+    Writer { out: out, at: 0 }
+}
+
+// The named rows go behind what the writer holds, and it is handed back.
+fn with_rows<'a, 'b>(
+    t: Writer<'a>,
+    w: usize,
+    first: usize,
+    last: usize,
+    screen: &'b [u8],
+) -> Writer<'a>
+    requires { ⌜ RowsIn w first last (now screen) ⌝ }
+    requires { ⌜ t .at + length (sentRows w first last (now screen)) ≤ length (now (t .out)) ⌝ }
+    ensures { λ r. ⌜ r ≡ filled (t .entry) (sentRows w first last (now (screen .entry))) ⌝ }
+{
+    let at = t.at;
+    let next = put_rows(w, first, last, screen, &mut *t.out, at);
+    Writer {
+        out: t.out,
+        at: next,
+    }
+}
+
+// A place goes behind what the writer holds, and the mark is the count.
+fn with_place<'a>(t: Writer<'a>, row: usize, column: usize) -> usize
+    requires { ⌜ t .at + length (placed row column) ≤ length (now (t .out)) ⌝ }
+    ensures { λ n. ⌜ Wrote (t .entry .at) (placed row column) (now (t .entry .out)) n (now (t .exit .0)) ⌝ }
+{
+    let at = t.at;
+    put_place(row, column, &mut *t.out, at)
+}
 
 // The named rows and then a place, from the front of the buffer on.
 pub fn write_screen(
@@ -22,6 +65,9 @@ pub fn write_screen(
     requires { ⌜ length (sentRows w first last (now screen) ++ placed row column) ≤ length (now out) ⌝ }
     ensures { λ n. ⌜ Wrote 0 (sentRows w first last (now (screen .entry)) ++ placed row column) (now (out .entry)) n (now (out .exit)) ⌝ }
 {
-    let next = put_rows(w, first, last, screen, out, 0);
-    put_place(row, column, out, next)
+    with_place(
+        with_rows(at_front(out), w, first, last, screen),
+        row,
+        column,
+    )
 }
