@@ -1,4 +1,4 @@
-/* Opens a small deck, presses some keys and prints what each call answers and the rows it names. */
+/* Opens a small deck, presses some keys and prints what each call answers and the bytes that a terminal is sent then. */
 #include <stdio.h>
 #include <string.h>
 
@@ -6,7 +6,19 @@
 
 enum { T = 16, ROWS = 2, COLUMNS = 4 };
 static uint8_t text[T], recall[T], side[1024], screen[ROWS * COLUMNS];
+static uint8_t buffer[ROWS * (COLUMNS + 7) + 9];
 static struct chidukwore_record record;
+
+/* The bytes for a terminal, with ESC as \e. */
+static void send(struct chidukwore_answer a)
+{
+    struct chidukwore_painting painting =
+        chidukwore_paint(ROWS, COLUMNS, a.first, a.last, a.row, a.column, screen, sizeof screen, buffer, sizeof buffer);
+    printf("  sends ");
+    for (size_t i = 0; i < painting.count; i++)
+        buffer[i] == 27 ? printf("\\e") : putchar(buffer[i]);
+    printf("\n");
+}
 
 static void print(const char *what, struct chidukwore_reply reply)
 {
@@ -16,9 +28,8 @@ static void print(const char *what, struct chidukwore_reply reply)
         printf("%s: refused %zu\n", what, a.code);
         return;
     }
-    printf("%s: steps %zu, bell %zu, cursor %zu %zu\n", what, a.steps, a.bell, a.row, a.column);
-    for (size_t row = a.first; row != 0 && row <= a.last; row++)
-        printf("  row %zu [%.*s]\n", row, COLUMNS, (const char *)screen + (row - 1) * COLUMNS);
+    printf("%s: steps %zu, bell %zu, rows %zu to %zu, cursor %zu %zu\n", what, a.steps, a.bell, a.first, a.last, a.row, a.column);
+    send(a);
 }
 
 static void key(const char *what, size_t kind, size_t a, size_t b, size_t c)
@@ -39,6 +50,7 @@ int main(void)
     key("delete right to a line beginning", CHIDUKWORE_FUNCTION, CHIDUKWORE_DELETE, CHIDUKWORE_RIGHT, CHIDUKWORE_LINE_BEGINNING);
     key("delete right to a line ending", CHIDUKWORE_FUNCTION, CHIDUKWORE_DELETE, CHIDUKWORE_RIGHT, CHIDUKWORE_LINE_ENDING);
     key("recall", CHIDUKWORE_RECALL, 0, 0, 0);
+    key("right", CHIDUKWORE_FUNCTION, CHIDUKWORE_MOVE, CHIDUKWORE_RIGHT, CHIDUKWORE_CHARACTER);
     key("no key", 99, 0, 0, 0);
     return 0;
 }

@@ -10,9 +10,11 @@
  *   side    1,024 bytes: quotation, its recall text, pattern, replacement
  *   screen  rows times columns bytes, row by row; rows 1 to 64, columns 1 to 256
  *
+ * Painting is lent two: the screen, which it only reads, and a buffer of any length for the bytes that go to a terminal.
+ *
  * Nothing is asked beforehand. Whatever is handed over, the call answers; what is wrong is refused with a number, and then no byte of
- * any store has changed. Each pointer must be that of as many bytes as its length says, the four must not overlap, and none may be null,
- * not even with length 0.
+ * any store has changed. Each pointer must be that of as many bytes as its length says, no two that are lent to one call may overlap, and
+ * none may be null, not even with length 0.
  */
 #ifndef CHIDUKWORE_H
 #define CHIDUKWORE_H
@@ -24,15 +26,17 @@
 extern "C" {
 #endif
 
-/* Refusals. A call gives the first that applies: opening checks 1, 2, 3, a key checks 1, 4, 5, 6. */
+/* Refusals. A call gives the first that applies: opening checks 1, 2, 3, a key checks 1, 4, 5, 6, painting checks 1, 3, 7. */
 enum {
     CHIDUKWORE_OK = 0,
-    CHIDUKWORE_SIZE = 1,    /* a store's length, rows or columns are not as above */
+    CHIDUKWORE_SIZE = 1,    /* a store's length, rows or columns are not as above; painting: or the named rows or the cursor are off the screen */
     CHIDUKWORE_LONG = 2,    /* opening: the stated length is more than T */
-    CHIDUKWORE_TEXT = 3,    /* opening: a byte of the text is neither 10 nor 32 to 126; place is its index, from 0 */
+    CHIDUKWORE_TEXT = 3,    /* opening: a byte of the text is neither 10 nor 32 to 126; painting: a byte of the screen is not 32 to 126;
+                               place is its index, from 0 */
     CHIDUKWORE_SESSION = 4, /* key: record and stores are not what a call gave back */
     CHIDUKWORE_KEY = 5,     /* key: no such key, a byte that is not allowed, or one of the two deletions that are not carried out */
-    CHIDUKWORE_FULL = 6     /* key: the finished text would not fit its store */
+    CHIDUKWORE_FULL = 6,    /* key: the finished text would not fit its store */
+    CHIDUKWORE_ROOM = 7     /* painting: there are more bytes than the buffer holds */
 };
 
 /* Kinds of key, with what a, b and c say. Numbers that name no key are refused with CHIDUKWORE_KEY. */
@@ -91,6 +95,19 @@ struct chidukwore_reply chidukwore_open(size_t n, size_t rows, size_t columns, u
 struct chidukwore_reply chidukwore_key(struct chidukwore_record record, size_t kind, size_t a, size_t b, size_t c, uint8_t *text,
                                        size_t text_length, uint8_t *recall, size_t recall_length, uint8_t *side, size_t side_length,
                                        uint8_t *screen, size_t screen_length);
+
+/* What painting answers. */
+struct chidukwore_painting {
+    size_t code;  /* 0, or a refusal */
+    size_t place; /* for CHIDUKWORE_TEXT only */
+    size_t count; /* how many bytes it wrote at the front of the buffer; those behind them are as they were. Refused: 0 */
+};
+
+/* Writes the bytes that bring a terminal up to date, in sequences of ECMA-48: for each row from first to last its place and its cells,
+ * then the cursor's place. first, last, row and column are those of an answer: 0 and 0, or 1 <= first <= last <= rows; 1 <= row <= rows;
+ * column <= columns. A buffer of rows * (columns + 7) + 9 bytes is always large enough. */
+struct chidukwore_painting chidukwore_paint(size_t rows, size_t columns, size_t first, size_t last, size_t row, size_t column,
+                                            const uint8_t *screen, size_t screen_length, uint8_t *buffer, size_t buffer_length);
 
 #ifdef __cplusplus
 }

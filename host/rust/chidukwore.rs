@@ -1,5 +1,8 @@
 //! The core for hosts in Rust, as include/chidukwore.h declares it for C. Link with libwindow.a.
 
+// A host uses of it what it needs.
+#![allow(dead_code)]
+
 /// The session record: lengths left and right of a cursor, of both halves of a pair, or alone; then mode, offsets, rows and columns.
 #[repr(C)]
 #[derive(Clone, Copy, Debug, Default, PartialEq, Eq)]
@@ -42,6 +45,15 @@ pub struct Reply {
     pub record: Record,
 }
 
+/// What painting answers: 0 or a refusal, the place of TEXT, and how many bytes it wrote.
+#[repr(C)]
+#[derive(Clone, Copy, Debug, Default, PartialEq, Eq)]
+pub struct Painting {
+    pub code: usize,
+    pub place: usize,
+    pub count: usize,
+}
+
 /// A key: its kind, and what a, b and c say of it.
 #[derive(Clone, Copy, Debug, PartialEq, Eq)]
 pub struct Key(pub usize, pub usize, pub usize, pub usize);
@@ -76,6 +88,10 @@ extern "C" {
         text: *mut u8, text_length: usize, recall: *mut u8, recall_length: usize,
         side: *mut u8, side_length: usize, screen: *mut u8, screen_length: usize,
     ) -> Reply;
+    fn chidukwore_paint(
+        rows: usize, columns: usize, first: usize, last: usize, row: usize, column: usize,
+        screen: *const u8, screen_length: usize, buffer: *mut u8, buffer_length: usize,
+    ) -> Painting;
 }
 
 /// Opens the first n bytes of the text store.
@@ -104,4 +120,18 @@ pub fn key(record: Record, Key(kind, a, b, c): Key, lent: Stores) -> Reply {
             side.as_mut_ptr(), side.len(), screen.as_mut_ptr(), screen.len(),
         )
     }
+}
+
+/// Bytes that are enough for any painting on a screen of this size.
+pub const fn enough(rows: usize, columns: usize) -> usize {
+    rows * (columns + 7) + 9
+}
+
+/// Writes the bytes that bring a terminal up to date with the screen: the rows that an answer names, and its cursor.
+pub fn paint(rows: usize, columns: usize, answer: Answer, screen: &[u8], buffer: &mut [u8]) -> Painting {
+    let Answer { first, last, row, column, .. } = answer;
+    let (screen, screen_length) = (screen.as_ptr(), screen.len());
+    let (buffer, buffer_length) = (buffer.as_mut_ptr(), buffer.len());
+    // Sound: as above.
+    unsafe { chidukwore_paint(rows, columns, first, last, row, column, screen, screen_length, buffer, buffer_length) }
 }

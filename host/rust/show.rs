@@ -1,8 +1,8 @@
-//! Opens a small deck, presses some keys and prints what each call answers and the rows it names.
+//! Opens a small deck, presses some keys and prints what each call answers and the bytes that a terminal is sent then.
 
 mod chidukwore;
 
-use chidukwore::{insert, Key, Record, Reply, Stores, FIND, QUOTE, RECALL};
+use chidukwore::{insert, Answer, Key, Record, Reply, Stores, FIND, QUOTE, RECALL};
 
 const ROWS: usize = 2;
 const COLUMNS: usize = 4;
@@ -39,11 +39,16 @@ impl Bench {
             println!("{what}: refused {}", a.code);
             return;
         }
-        println!("{what}: steps {}, bell {}, cursor {} {}", a.steps, a.bell, a.row, a.column);
-        for row in a.first.max(1)..=a.last {
-            let cells = &self.screen[(row - 1) * COLUMNS..row * COLUMNS];
-            println!("  row {row} [{}]", String::from_utf8_lossy(cells));
-        }
+        let Answer { steps, bell, first, last, row, column, .. } = a;
+        println!("{what}: steps {steps}, bell {bell}, rows {first} to {last}, cursor {row} {column}");
+        self.send(a);
+    }
+
+    /// The bytes for a terminal, with ESC as \e.
+    fn send(&self, answer: Answer) {
+        let mut buffer = [0; chidukwore::enough(ROWS, COLUMNS)];
+        let painting = chidukwore::paint(ROWS, COLUMNS, answer, &self.screen, &mut buffer);
+        println!("  sends {}", String::from_utf8_lossy(&buffer[..painting.count]).replace('\x1b', "\\e"));
     }
 }
 
@@ -58,5 +63,6 @@ fn main() {
     bench.key("delete right to a line beginning", Key(1, 1, 1, 2));
     bench.key("delete right to a line ending", Key(1, 1, 1, 3));
     bench.key("recall", RECALL);
+    bench.key("right", Key(1, 0, 1, 0));
     bench.key("no key", Key(99, 0, 0, 0));
 }
