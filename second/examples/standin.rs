@@ -2,7 +2,8 @@
 
 use second::bytes::{Record, Stores};
 use second::core::{Core, Numbers, Reply, Second};
-use std::slice::from_raw_parts_mut;
+use second::paint::{paint, Ask, Painting};
+use std::slice::{from_raw_parts, from_raw_parts_mut};
 
 /// Runs a call on copies of the lent stores and copies them back.
 ///
@@ -59,4 +60,23 @@ pub unsafe extern "C" fn chidukwore_key(
 ) -> Reply {
     let lent = [(text, text_length), (recall, recall_length), (side, side_length), (screen, screen_length)];
     lend(lent, |stores| Second.key(record, Numbers { kind, a, b, c }, stores))
+}
+
+/// # Safety
+/// As the header says.
+#[no_mangle]
+pub unsafe extern "C" fn chidukwore_paint(
+    h: usize,
+    w: usize,
+    first: usize,
+    last: usize,
+    row: usize,
+    column: usize,
+    screen: *const u8,
+    screen_length: usize,
+    buffer: *mut u8,
+    buffer_length: usize,
+) -> Painting {
+    let ask = Ask { h, w, first, last, row, column };
+    paint(ask, from_raw_parts(screen, screen_length), from_raw_parts_mut(buffer, buffer_length))
 }

@@ -4,8 +4,11 @@ use crate::bytes::{Stores, LARGEST_T};
 use crate::calls::{self, Call, Kind};
 use crate::core::{key_of, numbers_of, Answer, Core, Reply, Second};
 use crate::generate;
+use crate::paint_calls::PaintCall;
+use crate::painted::{self, Unpainted};
 use crate::plain::{press, Doc, Edited, Editor};
 use crate::random::Random;
+use crate::terminal::Terminal;
 use crate::unreadable::{self, Script};
 use crate::walk::{self, Walk};
 use crate::window::{policy, virtual_text, window, Offsets};
@@ -23,12 +26,14 @@ pub struct Counts {
     pub walked: Codes,
     pub called: Codes,
     pub damaged: usize,
+    pub painted: Codes,
+    pub paintings_damaged: usize,
 }
 
 /// Calls by their codes.
 #[derive(Default)]
 pub struct Codes {
-    pub codes: [usize; 7],
+    pub codes: [usize; 8],
     pub bells: usize,
     pub quoted: usize,
 }
@@ -44,19 +49,19 @@ impl Codes {
 
 impl std::fmt::Display for Codes {
     fn fmt(&self, f: &mut std::fmt::Formatter) -> std::fmt::Result {
-        let names = ["accepted", "SIZE", "LONG", "TEXT", "SESSION", "KEY", "FULL"];
-        write!(f, "{}:", self.codes.iter().sum::<usize>())?;
-        for (name, count) in names.iter().zip(self.codes).filter(|(_, count)| *count > 0) {
-            write!(f, " {name} {count},")?;
-        }
-        write!(f, " bell {}, in QUOTED {}", self.bells, self.quoted)
+        let names = ["accepted", "SIZE", "LONG", "TEXT", "SESSION", "KEY", "FULL", "ROOM", "bell", "in QUOTED"];
+        let counts = self.codes.into_iter().chain([self.bells, self.quoted]);
+        let shown: Vec<String> =
+            names.iter().zip(counts).filter(|(_, count)| *count > 0).map(|(name, count)| format!("{name} {count}")).collect();
+        write!(f, "{}: {}", self.codes.iter().sum::<usize>(), shown.join(", "))
     }
 }
 
 /// Where the two part.
 enum Difference {
     Call(Box<Call>),
-    /// The named rows of the keys so far don't keep a terminal up to date.
+    Painting(Box<PaintCall>),
+    /// The named rows of the keys so far, or the bytes that are sent for them, don't keep a terminal up to date.
     Terminal,
 }
 
@@ -115,11 +120,12 @@ fn both(core: &dyn Core, call: &Call, codes: &mut Codes) -> Option<(Reply, Store
 }
 
 /// Opens and presses each key in both programs. A terminal that is sent the named rows only must show the window of the plain
-/// document, which is kept here with no store at all.
+/// document, which is kept here with no store at all; and one that is fed the bytes for real terminals must show that too.
 fn walk_through(core: &dyn Core, walk: &Walk, codes: &mut Codes) -> Result<(), Difference> {
     let Walk { h, w, t, .. } = *walk;
     let mut editor = Editor { main: Edited { text: Doc::new(&[], &walk.text), recall: Doc::default() }, ..Editor::default() };
     let mut at = Offsets::default();
+    let mut fed = Terminal::showing(b'E', h, w);
     let mut terminal = vec![0; h * w];
     let mut up_to_date = |editor: &Editor, at: Offsets, answer: &Answer, screen: &[u8]| {
         if answer.first > 0 {
@@ -139,6 +145,12 @@ fn walk_through(core: &dyn Core, walk: &Walk, codes: &mut Codes) -> Result<(), D
         };
         if !up_to_date(&editor, at, &reply.answer, &stores.screen) {
             return Err(Difference::Terminal);
+        }
+        if reply.answer.code == 0 {
+            painted::send(core, &mut fed, &reply.answer, &stores.screen).map_err(|wrong| match wrong {
+                Unpainted::Differs(call) => Difference::Painting(call),
+                Unpainted::Shows => Difference::Terminal,
+            })?;
         }
         let Some(key) = key else { break };
         call = Call { kind: Kind::Key { record: reply.record, numbers: numbers_of(*key) }, stores };
@@ -184,7 +196,8 @@ fn report_walk(core: &dyn Core, walk: Walk) -> String {
     let script = show::script(&Script::of(&walk).bytes());
     match walk_through(core, &walk, &mut Codes::default()) {
         Err(Difference::Call(call)) => format!("a script:\n{script}its last call: {}", report_call(core, &call)),
-        _ => format!("a script whose named rows do not keep a terminal up to date:\n{script}"),
+        Err(Difference::Painting(call)) => format!("a script:\n{script}after it: {}", painted::report(core, &call)),
+        _ => format!("a script whose named rows or bytes do not keep a terminal up to date:\n{script}"),
     }
 }
 

@@ -1,6 +1,8 @@
-//! The opening call and the key call, on arbitrary bytes and numbers, with all refusals in their order.
+//! The opening call and the key call, on arbitrary bytes and numbers, with all refusals in their order; and what a core is: these two,
+//! and the routine for terminals.
 
 use crate::bytes::{encode, record, session, sizes_fit, Record, Stores};
+use crate::paint::{paint, Ask, Painting};
 use crate::plain::{allowed, press, Action, Direction, Doc, Edited, Editor, Key, Place, Refusal};
 use crate::window::{cursor, named_rows, policy, virtual_text, window, Offsets};
 
@@ -40,10 +42,11 @@ pub struct Numbers {
     pub c: usize,
 }
 
-/// Two calls on four lent stores: this program's, or the proved core's behind its boundary.
+/// Two calls on four lent stores, and the bytes for terminals: this program's, or the proved core's behind its boundary.
 pub trait Core {
     fn open(&self, n: usize, h: usize, w: usize, stores: &mut Stores) -> Reply;
     fn key(&self, record: Record, numbers: Numbers, stores: &mut Stores) -> Reply;
+    fn paint(&self, ask: Ask, screen: &[u8], buffer: &mut [u8]) -> Painting;
 }
 
 /// This program.
@@ -91,6 +94,10 @@ impl Core for Second {
                 reply
             }
         }
+    }
+
+    fn paint(&self, ask: Ask, screen: &[u8], buffer: &mut [u8]) -> Painting {
+        paint(ask, screen, buffer)
     }
 }
 

@@ -3,6 +3,8 @@
 use crate::bytes::{Record, Stores};
 use crate::calls::{Call, Kind};
 use crate::core::Reply;
+use crate::paint::Painting;
+use crate::paint_calls::PaintCall;
 
 /// A script, with odd bytes so that `printf %b` gives it back.
 pub fn script(bytes: &[u8]) -> String {
@@ -78,4 +80,15 @@ pub fn outcome(call: &Call, (reply, after): &(Reply, Stores)) -> String {
     let changed = after.into_iter().zip(before).filter(|(now, before)| now != before);
     let head = format!("  {:?}\n{}", reply.answer, numbers(reply.record));
     head + &changed.map(|(now, _)| line(&now)).collect::<String>()
+}
+
+/// A call of the routine for terminals.
+pub fn painting(call: &PaintCall) -> String {
+    let head = format!("  {:?}\n", call.ask);
+    head + &line(&("screen", &call.screen)) + &line(&("buffer", &call.buffer))
+}
+
+/// Its answer, and the whole buffer.
+pub fn painted((painting, buffer): &(Painting, Vec<u8>)) -> String {
+    format!("  {painting:?}\n") + &line(&("buffer", buffer))
 }

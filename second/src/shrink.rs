@@ -2,6 +2,8 @@
 
 use crate::bytes::{encode, record, session, sizes_fit, Stores};
 use crate::calls::{Call, Kind};
+use crate::paint::{bytes, on_screen, Ask};
+use crate::paint_calls::PaintCall;
 use crate::plain::{Doc, Edited, Editor};
 use crate::walk::Walk;
 use crate::window::{policy, virtual_text, window, Offsets};
@@ -262,5 +264,56 @@ fn smaller_bytes(call: &Call) -> Vec<Call> {
     set(&call.stores.text).into_iter().for_each(|i| with(&|call| call.stores.text[i] = 0));
     set(&call.stores.recall).into_iter().for_each(|i| with(&|call| call.stores.recall[i] = 0));
     set(&call.stores.side).into_iter().for_each(|i| with(&|call| call.stores.side[i] = 0));
+    all
+}
+
+/// A painting with smaller numbers and fewer bytes.
+pub fn painting(mut call: PaintCall, differs: impl FnMut(&PaintCall) -> bool) -> PaintCall {
+    let mut differs = limited(differs);
+    while let Some(smaller) = smaller_paintings(&call).into_iter().find(&mut differs) {
+        call = smaller;
+    }
+    call
+}
+
+fn smaller_paintings(call: &PaintCall) -> Vec<PaintCall> {
+    let Ask { h, w, first, last, row, column } = call.ask;
+    let mut all = Vec::new();
+    if on_screen(call.ask, &call.screen) {
+        // As many bytes too many or too few in the buffer as there were.
+        let needed = bytes(call.ask, &call.screen).len();
+        let mut cut = |ask: Ask, screen: Vec<u8>| {
+            let length = (call.buffer.len() + bytes(ask, &screen).len()).saturating_sub(needed);
+            all.push(PaintCall { ask, screen, buffer: call.buffer[..length].to_vec() });
+        };
+        for h in less(h, 1) {
+            cut(Ask { h, first: first.min(h), last: last.min(h), row: row.min(h), ..call.ask }, call.screen[..h * w].to_vec());
+        }
+        for less in less(w, 1) {
+            let cells = call.screen.chunks(w).flat_map(|cells| &cells[..less]).copied().collect();
+            cut(Ask { w: less, column: column.min(less), ..call.ask }, cells);
+        }
+        for first in less(last, first) {
+            cut(Ask { last: first, ..call.ask }, call.screen.clone());
+        }
+    }
+    let numbers = [row, column, first, last, h, w, call.screen.len(), call.buffer.len()];
+    for (i, number) in numbers.into_iter().enumerate() {
+        for number in less(number, 0) {
+            let mut smaller = call.clone();
+            let Ask { h, w, first, last, row, column } = &mut smaller.ask;
+            match i {
+                6 => smaller.screen.truncate(number),
+                7 => smaller.buffer.truncate(number),
+                _ => *[row, column, first, last, h, w][i] = number,
+            }
+            all.push(smaller);
+        }
+    }
+    for at in (0..call.screen.len()).filter(|at| call.screen[*at] != 32).take(16) {
+        let mut smaller = call.clone();
+        smaller.screen[at] = 32;
+        all.push(smaller);
+    }
     all
 }

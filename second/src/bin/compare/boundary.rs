@@ -2,6 +2,7 @@
 
 use second::bytes::{Record, Stores};
 use second::core::{Core, Numbers, Reply};
+use second::paint::{Ask, Painting};
 
 #[rustfmt::skip]
 extern "C" {
@@ -34,6 +35,19 @@ extern "C" {
         screen: *mut u8,
         screen_length: usize,
     ) -> Reply;
+
+    fn chidukwore_paint(
+        rows: usize,
+        columns: usize,
+        first: usize,
+        last: usize,
+        row: usize,
+        column: usize,
+        screen: *const u8,
+        screen_length: usize,
+        buffer: *mut u8,
+        buffer_length: usize,
+    ) -> Painting;
 }
 
 pub struct Proved;
@@ -47,21 +61,44 @@ impl Core for Proved {
         let Numbers { kind, a, b, c } = numbers;
         lend(stores, |[t, r, s, p], [tl, rl, sl, pl]| unsafe { chidukwore_key(record, kind, a, b, c, t, tl, r, rl, s, sl, p, pl) })
     }
+
+    /// The screen is guarded too, and must stay as it is.
+    fn paint(&self, ask: Ask, screen: &[u8], buffer: &mut [u8]) -> Painting {
+        let Ask { h, w, first, last, row, column } = ask;
+        let [seen, mut lent] = [screen, &*buffer].map(guarded);
+        let (from, into) = (seen[GUARD.len()..].as_ptr(), lent[GUARD.len()..].as_mut_ptr());
+        let mut painting = unsafe { chidukwore_paint(h, w, first, last, row, column, from, screen.len(), into, buffer.len()) };
+        buffer.copy_from_slice(inside(&lent));
+        if inside(&seen) != screen || !guards_stand(&seen) || !guards_stand(&lent) {
+            painting.code = usize::MAX;
+        }
+        painting
+    }
 }
 
 const GUARD: [u8; 64] = [0xA5; 64];
+
+fn guarded(store: &[u8]) -> Vec<u8> {
+    [&GUARD[..], store, &GUARD[..]].concat()
+}
+
+fn inside(area: &[u8]) -> &[u8] {
+    &area[GUARD.len()..area.len() - GUARD.len()]
+}
+
+fn guards_stand(area: &[u8]) -> bool {
+    area.starts_with(&GUARD) && area.ends_with(&GUARD)
+}
 
 /// Lends each store between two guards, so that a byte written outside it is seen: as a code that no call has.
 fn lend(stores: &mut Stores, call: impl FnOnce([*mut u8; 4], [usize; 4]) -> Reply) -> Reply {
     let mut own = [&mut stores.text, &mut stores.recall, &mut stores.side, &mut stores.screen];
     let lengths = own.each_ref().map(|store| store.len());
-    let mut lent = own.each_ref().map(|store| [&GUARD[..], store.as_slice(), &GUARD[..]].concat());
+    let mut lent = own.each_ref().map(|store| guarded(store));
     let mut reply = call(lent.each_mut().map(|area| area[GUARD.len()..].as_mut_ptr()), lengths);
     for (store, area) in own.iter_mut().zip(&lent) {
-        let (before, rest) = area.split_at(GUARD.len());
-        let (inside, behind) = rest.split_at(store.len());
-        store.copy_from_slice(inside);
-        if before != GUARD || behind != GUARD {
+        store.copy_from_slice(inside(area));
+        if !guards_stand(area) {
             reply.answer.code = usize::MAX;
         }
     }

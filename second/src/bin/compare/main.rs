@@ -5,21 +5,23 @@ mod boundary;
 
 use second::compare::{calls, scripts, Counts};
 use second::core::{Core, Second};
+use second::painted::paintings;
 use std::path::PathBuf;
 use std::process::ExitCode;
 use std::time::Instant;
 
-const USAGE: &str = "compare [--seed S] [--scripts N] [--calls N] [--self]";
+const USAGE: &str = "compare [--seed S] [--scripts N] [--calls N] [--paintings N] [--self]";
 
 struct Options {
     seed: u64,
     scripts: u64,
     calls: u64,
+    paintings: u64,
     with_itself: bool,
 }
 
 fn options() -> Option<Options> {
-    let mut options = Options { seed: 1, scripts: 100, calls: 10_000, with_itself: false };
+    let mut options = Options { seed: 1, scripts: 100, calls: 10_000, paintings: 10_000, with_itself: false };
     let mut words = std::env::args().skip(1);
     while let Some(word) = words.next() {
         let mut number = || words.next()?.parse().ok();
@@ -27,6 +29,7 @@ fn options() -> Option<Options> {
             "--seed" => options.seed = number()?,
             "--scripts" => options.scripts = number()?,
             "--calls" => options.calls = number()?,
+            "--paintings" => options.paintings = number()?,
             "--self" => options.with_itself = true,
             _ => return None,
         }
@@ -58,9 +61,14 @@ fn main() -> ExitCode {
     let mut counts = Counts::default();
     let start = Instant::now();
     let seconds = || start.elapsed().as_secs_f64();
-    let mut found = scripts(&*core, bench.as_deref(), options.seed, options.scripts, &mut counts);
+    let mut found = paintings(&*core, options.seed, options.paintings, &mut counts);
     if found.is_ok() {
-        println!("walks {}", options.scripts);
+        println!("single paintings {}, damaged {}", options.paintings, counts.paintings_damaged);
+        println!("  calls {}", counts.painted);
+        found = scripts(&*core, bench.as_deref(), options.seed, options.scripts, &mut counts);
+    }
+    if found.is_ok() {
+        println!("walks {}, a terminal fed after each accepted call", options.scripts);
         println!("  calls {}", counts.walked);
         println!("scripts {}, unreadable {}, blocks {}", counts.scripts, counts.unreadable, counts.blocks);
         found = calls(&*core, options.seed, options.calls, &mut counts);
