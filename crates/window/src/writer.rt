@@ -10,6 +10,7 @@ ghost use Rattle.gap.specs.Written.{Wrote};
 ghost use Rattle.window.specs.Sequences.{placed, sentRows};
 ghost use Rattle.window.specs.Writing.{RowsIn, filled};
 
+// The lent buffer, and how far it is filled.
 pub struct Writer<'a> {
     pub out: &'a mut [u8],
     pub at: usize,

@@ -24,7 +24,7 @@ module _ (xs ys old : List ℕ) (room : length (xs ++ ys) ≤ length old) where
   first-run : Wrote 0 xs old (0 + length xs) (patch 0 xs old)
   first-run = record { fits = first-run-fits; place = refl; bytes = refl }
 
-  pub length-filled : length (patch 0 xs old) ≡ length old
+  length-filled : length (patch 0 xs old) ≡ length old
   length-filled = wrote-length first-run
 
   pub second-run-fits : (0 + length xs) + length ys ≤ length (patch 0 xs old)

@@ -27,9 +27,9 @@ use denote.Triple.Entry.{Args, Vals, onEntry}
 use denote.Triple.Spec.{Meets, tripleOf}
 use denote.Triple.Table.{entered}
 use denote.Triple.Walked.{says, Stays, walkOf, ends-at, walked}
-use Rattle.window.proofs.Apart.{holding, slice, machine, together}
-use Rattle.window.proofs.Held.{let-go, let-go-goes}
-use Rattle.window.proofs.Walking.{idle, arg, stores, gone, keeps}
+use Rattle.window.proofs.Walks.Apart.{holding, slice, machine, together}
+use Rattle.window.proofs.Walks.Held.{let-go, let-go-goes}
+use Rattle.window.proofs.Walks.Steps.{idle, arg, stores, gone, keeps}
 use Rattle.window.proofs.writer.at_front as at-front
 use Rattle.window.proofs.writer.at_front.Key.{name as #at-front}
 use Rattle.window.proofs.writer.at_front.Statement as stated

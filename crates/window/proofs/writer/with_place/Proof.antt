@@ -37,9 +37,9 @@ use denote.Triple.Walked.{says, needs, Stays, walkOf, ends-at, walked}
 use Rattle.gap.specs.Written.{Wrote}
 use Rattle.gap.proofs.Laws.Writers.{wrote-length}
 use Rattle.window.specs.Sequences.{placed}
-use Rattle.window.proofs.Apart.{holding, slice, machine, called, apart}
-use Rattle.window.proofs.Held.{let-go, let-go-goes, number-quiet, handed-on, handed, handed-on-goes}
-use Rattle.window.proofs.Walking.{promise, count, idle, arg, stores, stored, gone, counted, calls, keeps}
+use Rattle.window.proofs.Walks.Apart.{holding, slice, machine, called, apart}
+use Rattle.window.proofs.Walks.Held.{let-go, let-go-goes, number-quiet, handed-on, handed, handed-on-goes}
+use Rattle.window.proofs.Walks.Steps.{promise, count, idle, arg, stores, stored, gone, counted, calls, keeps}
 use Rattle.window.proofs.writer.Writer as T
 use Rattle.window.proofs.writer.Writer.Laws as T′
 use Rattle.window.proofs.sequences.put_place as put-place

@@ -41,10 +41,10 @@ use Rattle.gap.proofs.Laws.Writers.{wrote-length}
 use Rattle.window.specs.Sequences.{sentRows}
 use Rattle.window.specs.Writing.{RowsIn}
 use Rattle.window.proofs.Laws.Writer.{wrote-filled}
-use Rattle.window.proofs.Apart.{holding, slice, machine, called, apart, together}
-use Rattle.window.proofs.Held.{let-go, let-go-goes, number-quiet}
-use Rattle.window.proofs.LentAgain.{renamed, Lent, lend, back}
-use Rattle.window.proofs.Walking.{both-needed, both-said, promise, count, idle, arg, stores, stored, gone, counted, calls, keeps}
+use Rattle.window.proofs.Walks.Apart.{holding, slice, machine, called, apart, together}
+use Rattle.window.proofs.Walks.Held.{let-go, let-go-goes, number-quiet}
+use Rattle.window.proofs.Walks.LentAgain.{renamed, Lent, lend, back}
+use Rattle.window.proofs.Walks.Steps.{both-needed, both-said, promise, count, idle, arg, stores, stored, gone, counted, calls, keeps}
 use Rattle.window.proofs.writer.Writer as T
 use Rattle.window.proofs.writer.Writer.Laws as T′
 use Rattle.window.proofs.sequences.put_rows as put-rows

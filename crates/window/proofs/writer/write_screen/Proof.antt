@@ -44,9 +44,9 @@ use Rattle.window.specs.declared.writer.Writer.{Writer}
 use Rattle.window.specs.Sequences.{placed, sentRows}
 use Rattle.window.specs.Writing.{RowsIn, filled}
 use Rattle.window.proofs.Laws.Writer.{first-run-fits, second-run-fits, both-runs}
-use Rattle.window.proofs.Apart.{holding, slice, called}
-use Rattle.window.proofs.Held.{dropped-goes, number-quiet}
-use Rattle.window.proofs.Walking.{both-needed, both-said, promise, count, idle, arg, stores, stored, gone, counted, calls, keeps}
+use Rattle.window.proofs.Walks.Apart.{holding, slice, called}
+use Rattle.window.proofs.Walks.Held.{dropped-goes, number-quiet}
+use Rattle.window.proofs.Walks.Steps.{both-needed, both-said, promise, count, idle, arg, stores, stored, gone, counted, calls, keeps}
 use Rattle.window.proofs.writer.Writer as T
 use Rattle.window.proofs.writer.Writer.Laws as T′
 use Rattle.window.proofs.writer.at_front as at-front

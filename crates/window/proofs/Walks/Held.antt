@@ -26,8 +26,8 @@ use denote.Triple.End.{Kepts}
 use denote.Triple.Walked.{Stay, Stays, Fields, stay-dropped, gave-slice, stay-struct-at, stay-declared}
 use denote.Triple.Walked.{Goes, AllGo, goes-gave-slice, goes-struct-at, goes-declared}
 use Rattle.window.specs.declared.writer.Writer.{Writer}
-use Rattle.window.proofs.Apart.{holding, slice, machine}
-use Rattle.window.proofs.Walking.{idle}
+use Rattle.window.proofs.Walks.Apart.{holding, slice, machine}
+use Rattle.window.proofs.Walks.Steps.{idle}
 use Rattle.window.proofs.writer.Writer as T
 
 -- ---- Nothing
@@ -41,7 +41,7 @@ module _ {M : Type 1} (𝓤 : URA M) (H : Heap 𝓤) (A : Atoms 𝓤) (W : Given
   abbrev pub Quiet : (s : Slot n) → Kept → Type 1
   Quiet s k = (κs : Lfts n) (x : s .row κs .Denot) (end : Last (s .row κs .exit k) x) → ent 𝓤 (emp 𝓤) (sem 𝓤 H A (left (s .row κs .exit k) x end))
 
-  abbrev pub AllQuiet : (ss : List (Slot n)) → Kepts ss → Type 1
+  abbrev AllQuiet : (ss : List (Slot n)) → Kepts ss → Type 1
   AllQuiet [] ks = Unit {1}
   AllQuiet (s ∷ ss) ks = Quiet s (ks .0) × AllQuiet ss (ks .1)
 

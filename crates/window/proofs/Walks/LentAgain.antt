@@ -26,7 +26,7 @@ use denote.Ref.{RefT, at-last}
 use denote.Slice.{sliceVal, MutSlice, heres, Room, finally, at-slice, codedHoleys}
 use denote.Lend.{Held, lends-slice, slice-back}
 use denote.Index.{row, whole-out, whole-in, opens-slice, closes-slice}
-use Rattle.window.proofs.Apart.{slice}
+use Rattle.window.proofs.Walks.Apart.{slice}
 
 abbrev pub renamed : RefT (List ℕ) → GName → RefT (List ℕ)
 renamed out δ = record { ptr = out .ptr; name = δ; now = out .now }

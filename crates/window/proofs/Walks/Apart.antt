@@ -18,7 +18,7 @@ use denote.Slice.{sliceVal, MutSlice}
 use denote.Steps.{nothing}
 use denote.Struct.Rest.{all-own, own-open}
 use Rattle.window.specs.declared.writer.Writer.{Writer}
-use Rattle.window.proofs.Walking.{count}
+use Rattle.window.proofs.Walks.Steps.{count}
 use Rattle.window.proofs.writer.Writer as T
 use Rattle.window.proofs.writer.Writer.Laws as T′
 

@@ -1,0 +1,4 @@
+pub mod Steps
+pub mod Apart
+pub mod Held
+pub mod LentAgain
