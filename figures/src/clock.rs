@@ -8,7 +8,7 @@ use std::hint::black_box;
 use std::time::{Duration, Instant};
 
 /// Batches of each kind, and how long one goes on at least.
-const BATCHES: usize = 101;
+pub const BATCHES: usize = 101;
 const LEAST: Duration = Duration::from_micros(100);
 
 #[derive(Clone, Copy)]
@@ -66,7 +66,7 @@ fn pressed(scene: &Scene, stores: &mut Stores, mut list: impl FnMut(Record, &mut
     spent.as_nanos() as f64 / (turns * scene.keys.len()) as f64
 }
 
-fn per_turn(mut turn: impl FnMut()) -> f64 {
+pub fn per_turn(mut turn: impl FnMut()) -> f64 {
     let (start, mut turns) = (Instant::now(), 0);
     while start.elapsed() < LEAST {
         turn();
@@ -75,7 +75,7 @@ fn per_turn(mut turn: impl FnMut()) -> f64 {
     start.elapsed().as_nanos() as f64 / f64::from(turns)
 }
 
-fn median(times: impl Iterator<Item = f64>) -> f64 {
+pub fn median(times: impl Iterator<Item = f64>) -> f64 {
     let mut times: Vec<f64> = times.collect();
     times.sort_by(f64::total_cmp);
     times[times.len() / 2]

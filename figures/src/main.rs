@@ -5,6 +5,7 @@ mod chidukwore;
 mod clock;
 mod hand;
 mod limit;
+mod paintings;
 mod proved;
 mod random;
 mod scenes;
@@ -33,5 +34,7 @@ fn main() {
             }
         }
     }
-    println!("\ntargets missed: {missed}");
+    println!("\ntargets missed: {missed}\n");
+    paintings::compare(20_000);
+    paintings::measure();
 }

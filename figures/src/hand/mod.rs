@@ -4,6 +4,7 @@
 mod bytes;
 mod keys;
 mod places;
+pub mod terminal;
 mod texts;
 mod window;
 
