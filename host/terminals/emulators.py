@@ -4,10 +4,10 @@ import importlib.metadata
 import os
 import pathlib
 import re
+import select
 import subprocess
 import sys
 import tempfile
-import tty
 
 
 def packaged(package):
@@ -22,16 +22,12 @@ class Tmux:
         self.name = subprocess.run(['tmux', '-V'], check=True, capture_output=True, text=True).stdout.strip()
         self.folder = tempfile.TemporaryDirectory()
         self.server = ['tmux', '-S', os.path.join(self.folder.name, 'socket'), '-f', os.devnull]
-        self.control = subprocess.Popen([*self.server, '-C', 'new-session', *self.pane(80, 24)], stdin=subprocess.PIPE,
+        self.control = subprocess.Popen([*self.server, '-C', 'new-session', 'sleep 86400'], stdin=subprocess.PIPE,
                                         stdout=subprocess.PIPE, stderr=subprocess.STDOUT)
         self.block()
-        for option in ('status off', 'history-limit 0'):
+        # With the control client the server ends too, however this program ends.
+        for option in ('status off', 'history-limit 0', 'exit-unattached on'):
             self.ask(f'set-option -g {option}')
-
-    @staticmethod
-    def pane(columns, rows):
-        """A window of this size with a program in it that neither reads nor writes."""
-        return ['-x', str(columns), '-y', str(rows), 'sleep', '86400']
 
     def ask(self, command):
         self.control.stdin.write(command.encode() + b'\n')
@@ -41,7 +37,7 @@ class Tmux:
     def block(self):
         """The lines of the next answer, which stands between %begin and %end; notices may come before it."""
         lines = iter(self.control.stdout.readline, b'')
-        begin = next(line for line in lines if line.startswith(b'%begin '))
+        begin = next((line for line in lines if line.startswith(b'%begin ')), b'')
         answer = []
         for line in lines:
             if line in (begin.replace(b'begin', b'end', 1), begin.replace(b'begin', b'error', 1)):
@@ -53,12 +49,13 @@ class Tmux:
 
     def open(self, rows, columns):
         self.rows, self.columns = rows, columns
-        self.ask('new-session -d -s screen ' + ' '.join(self.pane(columns, rows)))
+        # The program in the pane lets bytes through as they are, says so, and then neither reads nor writes.
+        self.ask(f"new-session -d -s screen -x {columns} -y {rows} 'stty raw -echo; tmux wait-for -S ready; exec sleep 86400'")
+        self.ask('wait-for ready')  # It holds back the answer to the next command.
         place, size = self.ask("display-message -p -t screen '#{pane_tty} #{pane_height}x#{pane_width}'")[0].split()
         if size != f'{rows}x{columns}':
             raise OSError(f'tmux made a pane of {size}')
         self.tty = os.open(place, os.O_RDWR | os.O_NOCTTY)
-        tty.setraw(self.tty)
 
     def send(self, frame):
         # The terminal answers the request for a cursor report when it has read everything before it.
@@ -67,6 +64,8 @@ class Tmux:
             waiting = waiting[os.write(self.tty, waiting):]
         report = b''
         while not report.endswith(b'R'):
+            if not select.select([self.tty], [], [], 10)[0]:
+                raise OSError(f'tmux gave no cursor report: {report}')
             report += os.read(self.tty, 64)
         cursor = re.fullmatch(rb'\x1b\[(\d+);(\d+)R', report).groups()
         # Cells at the end of a row that were never written are left out.
