@@ -26,11 +26,12 @@ pub struct Painting {
 
 /// SIZE, TEXT, ROOM, or the bytes at the front of the buffer.
 pub fn paint(ask: Ask, screen: &[u8], buffer: &mut [u8]) -> Painting {
+    // "Nothing is written then": the count is 0 too (C4).
     let refused = |code, place| Painting { code, place, count: 0 };
     if !on_screen(ask, screen) {
         return refused(SIZE, 0);
     }
-    // Any byte of the screen, in a named row or not (C1).
+    // "A screen byte" is any of them, also one in a row that is not named (C1).
     if let Some(place) = screen.iter().position(|byte| !(32..=126).contains(byte)) {
         return refused(TEXT, place);
     }
@@ -38,38 +39,39 @@ pub fn paint(ask: Ask, screen: &[u8], buffer: &mut [u8]) -> Painting {
     if bytes.len() > buffer.len() {
         return refused(ROOM, 0);
     }
-    buffer.iter_mut().zip(&bytes).for_each(|(cell, byte)| *cell = *byte);
+    // The writer and its fill mark are the core's matter: here all bytes are there before the first is written. Those behind stay.
+    for (lent, byte) in buffer.iter_mut().zip(&bytes) {
+        *lent = *byte;
+    }
     Painting { code: 0, place: 0, count: bytes.len() }
 }
 
 /// SIZE does not apply.
 pub fn on_screen(ask: Ask, screen: &[u8]) -> bool {
     let Ask { h, w, first, last, row, column } = ask;
-    // 0 and 0 name none; 0 and any other number are out of order (C2).
+    let sizes = (1..=LARGEST_H).contains(&h) && (1..=LARGEST_W).contains(&w) && screen.len() == h * w;
+    // "0 and 0 name none", but one 0 alone is no row (C2).
     let none = first == 0 && last == 0;
-    (1..=LARGEST_H).contains(&h)
-        && (1..=LARGEST_W).contains(&w)
-        && screen.len() == h * w
-        && (none || 1 <= first && first <= last && last <= h)
-        // The column behind the last cell is one of the screen's (C3).
-        && (1..=h).contains(&row)
-        && column <= w
+    let in_order = 1 <= first && first <= last && last <= h;
+    // Column W, behind the last cell, is a cursor's place too (C3).
+    let cursor = 1 <= row && row <= h && column <= w;
+    sizes && (none || in_order) && cursor
 }
 
-/// For each named row its place and its W cells; at the end the cursor's place.
+/// The bytes for a terminal, where SIZE does not apply.
 pub fn bytes(ask: Ask, screen: &[u8]) -> Vec<u8> {
-    let Ask { w, first, last, row, column, .. } = ask;
+    let Ask { h, w, first, last, row, column } = ask;
     let mut bytes = Vec::new();
-    for (i, cells) in (1..).zip(screen.chunks(w)) {
-        if (first..=last).contains(&i) {
-            bytes.extend(place(i, 1));
-            bytes.extend(cells);
-        }
+    for named in (1..=h).filter(|row| first <= *row && *row <= last) {
+        bytes.extend(go_to(named, 1));
+        bytes.extend(&screen[(named - 1) * w..named * w]);
     }
-    bytes.extend(place(row, (column + 1).min(w)));
+    // "Its column plus 1, or W where that would be more."
+    bytes.extend(go_to(row, (column + 1).min(w)));
     bytes
 }
 
-fn place(row: usize, column: usize) -> Vec<u8> {
+/// ESC `[` row `;` column `H`; Rust writes numbers in decimal without leading zeros.
+fn go_to(row: usize, column: usize) -> Vec<u8> {
     format!("\x1b[{row};{column}H").into_bytes()
 }
