@@ -1,21 +1,23 @@
 -- A simple terminal as a machine over bytes, and a bench with such a terminal at the end of a line. (02, M-100: a simple terminal.)
-use Rattle.window.specs.Words.{List, [], _∷_, Bool, cond, ℕ, suc, _+_, _-_, _*_, eqb, leb, ltb, length, take, set, Key}
+use Rattle.window.specs.Words.{List, [], _∷_, _&&_, cond, ℕ, suc, _+_, _-_, _*_, eqb, leb, ltb, take, set, Key}
 use Rattle.gap.specs.Decimal.{digit, worth}
 use Rattle.gap.specs.Layout.{printable}
 use Rattle.window.specs.Window.{virtual, rowOf, columnOf}
 use Rattle.window.specs.Core.{Lent, Called, opened, keyed}
 use Rattle.window.specs.Terminal.{View, picture}
 use Rattle.window.specs.Sequences.{sentColumn}
-use Rattle.window.specs.Painting.{Painting, painting}
+use Rattle.window.specs.Painting.{PaintOutcome, painting}
 
 -- ---- The machine
 
--- What it is reading: bytes to show, or a sequence of which it has ESC, or ESC `[` and digits, or these, `;` and digits.
+-- What it is reading: bytes to show, or a sequence of which it has ESC, or ESC `[` and digits, or these, `;` and digits. It is lost once
+-- it was sent anything else, and stays so.
 pub data Reading : Type 0 where
   cells : Reading
   escape : Reading
   rowNumber : ℕ → Reading
   columnNumber : ℕ → ℕ → Reading
+  lost : Reading
 
 -- The cells that it shows, row by row, and where the next one goes, rows and columns from 1.
 pub record Machine : Type 0 where
@@ -24,11 +26,12 @@ pub record Machine : Type 0 where
   pub column : ℕ
   pub reading : Reading
 
+-- The same, reading on.
 abbrev pub reads : Machine → Reading → Machine
 reads m r = record { shows = m .shows; row = m .row; column = m .column; reading = r }
 
--- A byte that is printed goes into the cell, and the next goes right of it; at the last column the place stays, so that it neither
--- wraps nor scrolls. Any other byte but ESC does nothing.
+-- A byte goes into the cell at the place, and the next goes right of it; at the last column the place stays. (M-100: neither wraps nor
+-- scrolls.)
 abbrev pub cellShown : ℕ → ℕ → Machine → Machine
 cellShown W b m =
     record {
@@ -38,25 +41,26 @@ cellShown W b m =
       reading = cells;
     }
 
+-- ESC begins a sequence, and a byte that is printed is shown.
 abbrev pub cellRead : ℕ → ℕ → Machine → Machine
-cellRead W b m = cond (eqb b 27) (reads m escape) (cond (printable b) (cellShown W b m) m)
+cellRead W b m = cond (eqb b 27) (reads m escape) (cond (printable b) (cellShown W b m) (reads m lost))
 
--- A place that is off the screen becomes the nearest that is on it.
-abbrev pub within : ℕ → ℕ → ℕ
-within most n = cond (eqb n 0) 1 (cond (leb n most) n most)
-
+-- At the end of a sequence it goes to the place, if the screen has it.
 abbrev pub goes : ℕ → ℕ → ℕ → ℕ → Machine → Machine
-goes H W row column m = record { shows = m .shows; row = within H row; column = within W column; reading = cells }
+goes H W row column m =
+    cond ((leb 1 row && leb row H) && (leb 1 column && leb column W))
+    (record { shows = m .shows; row = row; column = column; reading = cells }) (reads m lost)
 
--- One byte. A sequence that is none of these is dropped with the byte that shows it.
+-- One byte. (M-100: a terminal that obeys these sequences.)
 unfoldable pub step : ℕ → ℕ → Reading → ℕ → Machine → Machine
 step H W cells b m = cellRead W b m
-step H W escape b m = reads m (cond (eqb b 91) (rowNumber 0) cells)
+step H W escape b m = reads m (cond (eqb b 91) (rowNumber 0) lost)
 step H W (rowNumber row) b m =
-    reads m (cond (digit b) (rowNumber (row * 10 + worth b)) (cond (eqb b 59) (columnNumber row 0) cells))
+    reads m (cond (digit b) (rowNumber (row * 10 + worth b)) (cond (eqb b 59) (columnNumber row 0) lost))
 step H W (columnNumber row column) b m =
     cond (digit b) (reads m (columnNumber row (column * 10 + worth b)))
-    (cond (eqb b 72) (goes H W row column m) (reads m cells))
+    (cond (eqb b 72) (goes H W row column m) (reads m lost))
+step H W lost b m = m
 
 -- A run of bytes.
 unfoldable pub feed : ℕ → ℕ → List ℕ → Machine → Machine
@@ -72,12 +76,12 @@ pub record Line : Type 0 where
   pub terminal : Machine
 
 -- After a call the routine is asked for the bytes, whatever the answer was, and as many as it counts go to the terminal.
-abbrev pub bytesAfter : Called → List ℕ → Painting
+abbrev pub bytesAfter : Called → List ℕ → PaintOutcome
 bytesAfter o buffer =
     painting (o .session .frame .h) (o .session .frame .w) (o .answer .first) (o .answer .last) (o .answer .row) (o .answer .column)
     (o .lent .screen) buffer
 
-abbrev pub sent : Called → Painting → Machine → Line
+abbrev pub sent : Called → PaintOutcome → Machine → Line
 sent o p m =
     record {
       called = o;
@@ -93,6 +97,7 @@ openedLine n H W b buffer m = let o = opened n H W b in sent o (bytesAfter o buf
 unfoldable pub struckLine : Key → Line → Line
 struckLine k at = let o = keyed (at .called .session) k (at .called .lent) in sent o (bytesAfter o (at .buffer)) (at .terminal)
 
+-- A list of keys.
 unfoldable pub typedLine : List Key → Line → Line
 typedLine [] at = at
 typedLine (k ∷ ks) at = typedLine ks (struckLine k at)

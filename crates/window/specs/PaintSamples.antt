@@ -5,8 +5,8 @@ use lib.ListN.{replicate}
 use Rattle.window.specs.Words.{List, [], _∷_, _++_, map, Bool, true, false, _&&_, cond, ℕ, _-_, _*_, eqb, length, take}
 use Rattle.gap.specs.Sequence.{sameBytes}
 use Rattle.gap.specs.Strings.{bytes}
-use Rattle.window.specs.Painting.{Painting, painting}
-use Rattle.window.specs.Machine.{Reading, cells, escape, rowNumber, columnNumber, Machine, feed}
+use Rattle.window.specs.Painting.{PaintOutcome, painting}
+use Rattle.window.specs.Machine.{Reading, cells, escape, rowNumber, columnNumber, lost, Machine, feed}
 
 -- Bytes as they are written here: `^` (94) is ESC, and `$` (36) is a newline.
 abbrev pub written : String → List ℕ
@@ -26,6 +26,14 @@ ready cells = true
 ready escape = false
 ready (rowNumber row) = false
 ready (columnNumber row column) = false
+ready lost = false
+
+abbrev pub isLost : Reading → Bool
+isLost cells = false
+isLost escape = false
+isLost (rowNumber row) = false
+isLost (columnNumber row column) = false
+isLost lost = true
 
 abbrev pub isSeen : Seen → Machine → Bool
 isSeen s m = (sameBytes (m .shows) (bytes (s .shows)) && ready (m .reading)) && (eqb (m .row) (s .row) && eqb (m .column) (s .column))
@@ -53,7 +61,7 @@ abbrev pub dots : ℕ → ℕ → Machine
 dots H W = record { shows = replicate (H * W) 46; row = 1; column = 1; reading = cells }
 
 -- Sent, the run stands at the front and the `#` behind it are left; refused, nothing is written.
-abbrev pub meets : PaintSample → Painting → Expected → Bool
+abbrev pub meets : PaintSample → PaintOutcome → Expected → Bool
 meets s p (Sends run after) =
     ((eqb (p .code) 0 && eqb (p .place) 0) && eqb (p .count) (length (written run)))
     && (sameBytes (p .buffer) (written run ++ replicate (s .room - length (written run)) 35)
@@ -131,34 +139,43 @@ paintSamples =
 
 -- ---- The terminal
 
--- Bytes for a terminal of 2 rows and 3 columns that shows `abcdef` and is at its first cell.
+-- Bytes for a terminal of 2 rows and 3 columns that shows `abcdef` and is at its first cell: what it shows then, or that it is lost.
+pub data Afterwards : Type 0 where
+  Shows : Seen → Afterwards
+  Loses : Afterwards
+
 pub record ReadSample : Type 0 where
   pub run : String
-  pub after : Seen
+  pub after : Afterwards
 
-abbrev pub afterBytes : String → Seen → ReadSample
-afterBytes run after = record { run = run; after = after }
+abbrev pub read : String → Afterwards → ReadSample
+read run after = record { run = run; after = after }
+
+abbrev pub isAfter : Afterwards → Machine → Bool
+isAfter (Shows s) m = isSeen s m
+isAfter Loses m = isLost (m .reading)
 
 unfoldable pub allRead : List ReadSample → Bool
 allRead [] = true
 allRead (r ∷ rs) =
-    isSeen (r .after) (feed 2 3 (written (r .run)) (record { shows = bytes "abcdef"; row = 1; column = 1; reading = cells })) && allRead rs
+    isAfter (r .after) (feed 2 3 (written (r .run)) (record { shows = bytes "abcdef"; row = 1; column = 1; reading = cells })) && allRead rs
 
 abbrev pub readSamples : List ReadSample
 readSamples =
-    afterBytes "" (seen "abcdef" 1 1)
-    ∷ afterBytes "xy" (seen "xycdef" 1 3)
+    read "" (Shows (seen "abcdef" 1 1))
+    ∷ read "xy" (Shows (seen "xycdef" 1 3))
     -- At the last column the place stays: it neither wraps nor scrolls.
-    ∷ afterBytes "wxyz" (seen "wxzdef" 1 3)
-    ∷ afterBytes "^[2;3Hwx^[2;1Hy" (seen "abcyex" 2 2)
-    -- A newline does nothing.
-    ∷ afterBytes "x$y" (seen "xycdef" 1 3)
-    -- A place off the screen becomes the nearest, and a number that is left out counts as 0.
-    ∷ afterBytes "^[99;99Hx" (seen "abcdex" 2 3)
-    ∷ afterBytes "^[2;3H^[0;0Hx" (seen "xbcdef" 1 2)
-    ∷ afterBytes "^[2;Hx" (seen "abcxef" 2 2)
-    -- Any other sequence is dropped with the byte that shows it.
-    ∷ afterBytes "^[2Jx" (seen "xbcdef" 1 2)
-    ∷ afterBytes "^[2;3Jx" (seen "xbcdef" 1 2)
-    ∷ afterBytes "^cx" (seen "xbcdef" 1 2)
+    ∷ read "wxyz" (Shows (seen "wxzdef" 1 3))
+    ∷ read "^[2;3Hwx^[2;1Hy" (Shows (seen "abcyex" 2 2))
+    -- A byte that is not printed, places off the screen, a number that is left out, other sequences.
+    ∷ read "x$y" Loses
+    ∷ read "^[3;1Hx" Loses
+    ∷ read "^[1;4Hx" Loses
+    ∷ read "^[0;1Hx" Loses
+    ∷ read "^[2;Hx" Loses
+    ∷ read "^[2Jx" Loses
+    ∷ read "^[2;3Jx" Loses
+    ∷ read "^cx" Loses
+    -- For good.
+    ∷ read "^c^[1;1Hx" Loses
     ∷ []

@@ -7,12 +7,12 @@ use Rattle.editor.specs.Plain.{SIZE, TEXT}
 use Rattle.window.specs.Core.{rowsAndColumns}
 use Rattle.window.specs.Sequences.{painted}
 
--- The seventh refusal.
+-- The seventh refusal. (M-100: 7 ROOM.)
 abbrev pub ROOM : ℕ
 ROOM = 7
 
 -- What the routine determines: 0 or a refusal's number, the place of TEXT, how many bytes it wrote, and the buffer.
-pub record Painting : Type 0 where
+pub record PaintOutcome : Type 0 where
   pub code : ℕ
   pub place : ℕ
   pub count : ℕ
@@ -36,21 +36,23 @@ abbrev pub badCell : List ℕ → Search
 badCell screen = nearest (λ i. not (printable (getD screen i 0))) (length screen) 0
 
 -- Refused, nothing is written. (M-100: nothing is written then.)
-abbrev pub unpainted : ℕ → ℕ → List ℕ → Painting
+abbrev pub unpainted : ℕ → ℕ → List ℕ → PaintOutcome
 unpainted code place buffer = record { code = code; place = place; count = 0; buffer = buffer }
 
--- The bytes stand at the front of the buffer, and those behind them are as they were.
-abbrev pub paintedInto : List ℕ → List ℕ → Painting
+-- The bytes stand at the front of the buffer, and those behind them are as they were; ROOM if there are more than the buffer has.
+-- (M-100: bytes behind it stay; exactly when the bytes exceed the buffer.)
+abbrev pub paintedInto : List ℕ → List ℕ → PaintOutcome
 paintedInto run buffer =
     cond (leb (length run) (length buffer)) (record { code = 0; place = 0; count = length run; buffer = patch 0 run buffer })
     (unpainted ROOM 0 buffer)
 
-abbrev pub unlessBadCell : Search → List ℕ → Painting → Painting
+-- TEXT comes before what else would be answered.
+abbrev pub unlessBadCell : Search → List ℕ → PaintOutcome → PaintOutcome
 unlessBadCell (Reached i) buffer p = unpainted TEXT i buffer
 unlessBadCell Nowhere buffer p = p
 
 -- SIZE, then TEXT, then ROOM. (M-100: refusals, in order.)
-unfoldable pub painting : ℕ → ℕ → ℕ → ℕ → ℕ → ℕ → List ℕ → List ℕ → Painting
+unfoldable pub painting : ℕ → ℕ → ℕ → ℕ → ℕ → ℕ → List ℕ → List ℕ → PaintOutcome
 painting H W first last row column screen buffer =
     cond (paintable H W first last row column screen)
     (unlessBadCell (badCell screen) buffer (paintedInto (painted W first last row column screen) buffer))

@@ -13,11 +13,11 @@ placed row column = 27 ∷ 91 ∷ (decimal row ++ (59 ∷ (decimal column ++ (72
 unfoldable pub sentRow : ℕ → List ℕ → ℕ → List ℕ
 sentRow W screen i = placed i 1 ++ screenRow W i screen
 
--- How many rows are named; first = 0 names none.
+-- How many rows are named; first = 0 names none. (M-100: 0 and 0 name none.)
 abbrev pub namedRows : ℕ → ℕ → ℕ
 namedRows first last = cond (eqb first 0) 0 (suc last - first)
 
--- The named rows, one behind the other.
+-- The named rows, one behind the other. (M-100: for each named row.)
 unfoldable pub sentRows : ℕ → ℕ → ℕ → List ℕ → List ℕ
 sentRows W first last screen = joined (map (sentRow W screen) (counted (namedRows first last) first))
 
@@ -25,6 +25,6 @@ sentRows W first last screen = joined (map (sentRow W screen) (counted (namedRow
 abbrev pub sentColumn : ℕ → ℕ → ℕ
 sentColumn W column = cond (ltb column W) (column + 1) W
 
--- All of it: the named rows, and at the end the cursor's place.
+-- All of it: the named rows, and then the cursor's place. (M-100: at the end.)
 unfoldable pub painted : ℕ → ℕ → ℕ → ℕ → ℕ → List ℕ → List ℕ
 painted W first last row column screen = sentRows W first last screen ++ placed row (sentColumn W column)

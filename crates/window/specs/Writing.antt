@@ -3,10 +3,10 @@ use Prim.Native.Nat.{_≤_}
 use denote.Ref.{now, at-last}
 use Rattle.window.specs.Words.{List, ℕ, zero, suc, _+_, _*_, length}
 use Rattle.gap.specs.Sequence.{patch}
-use Rattle.window.specs.declared.PaintAnswer.{PaintAnswer}
+use Rattle.window.specs.declared.Painting.{Painting}
 use Rattle.window.specs.declared.writer.Writer.{Writer}
 use Rattle.window.specs.Sequences.{placed, namedRows, sentColumn}
-use Rattle.window.specs.Painting.{Painting}
+use Rattle.window.specs.Painting.{PaintOutcome}
 
 -- The named rows, in their order or none, are rows of a screen that is no larger than tabled.
 pub record RowsIn (W first last : ℕ) (screen : List ℕ) : Type 0 where
@@ -28,5 +28,5 @@ abbrev pub filled : Writer → List ℕ → Writer
 filled w run = record { out = at-last (w .out) (patch (w .at) run (now (w .out))); at = w .at + length run }
 
 -- The answer and the buffer as one value.
-abbrev pub paintingOf : PaintAnswer → List ℕ → Painting
-paintingOf a buffer = record { code = a .code; place = a .place; count = a .count; buffer = buffer }
+abbrev pub outcomeOf : Painting → List ℕ → PaintOutcome
+outcomeOf a buffer = record { code = a .code; place = a .place; count = a .count; buffer = buffer }

@@ -1,7 +1,7 @@
 // The host's boundary: the calls for programs in C or Rust, with record, key and answer as numbers. Nothing is asked of the host
 // beforehand.
 use crate::Frame;
-use crate::PaintAnswer;
+use crate::Painting;
 use crate::Reply;
 use crate::Session;
 use crate::calls::open;
@@ -19,7 +19,7 @@ ghost use mathlib.Core.Path.{_≡_};
 ghost use Rattle.window.specs.Calls.{lent};
 ghost use Rattle.window.specs.Core.{refusal};
 ghost use Rattle.window.specs.Painting.{painting};
-ghost use Rattle.window.specs.Writing.{paintingOf};
+ghost use Rattle.window.specs.Writing.{outcomeOf};
 ghost use Rattle.window.specs.Host.{modeOf, sessionFrom, insertFrom, directionFrom, actionFrom, placeFrom, functionFrom};
 ghost use Rattle.window.specs.Host.{findFrom, keyFrom, modeNumber, bit, recordFrom, numbersOf, saidOf, given, hostOpened, hostKeyed};
 
@@ -354,8 +354,8 @@ pub extern "C" fn chidukwore_paint(
     column: usize,
     screen: &[u8],
     buffer: &mut [u8],
-) -> PaintAnswer
-    ensures { λ a. ⌜ paintingOf a (now (buffer .exit))
+) -> Painting
+    ensures { λ a. ⌜ outcomeOf a (now (buffer .exit))
         ≡ painting rows columns first last row column (now (screen .entry)) (now (buffer .entry)) ⌝ }
 {
     paint(rows, columns, first, last, row, column, screen, buffer)

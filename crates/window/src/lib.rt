@@ -64,7 +64,7 @@ pub struct Reply {
 
 // What the routine for terminals answers: 0 or a refusal, the place of TEXT, and how many bytes it wrote.
 #[repr(C)]
-pub struct PaintAnswer {
+pub struct Painting {
     pub code: usize,
     pub place: usize,
     pub count: usize,

@@ -1,5 +1,5 @@
 // The routine that brings a terminal up to date: what is wrong is refused, and then nothing is written.
-use crate::PaintAnswer;
+use crate::Painting;
 use crate::calls::rows_and_columns;
 use crate::sequences::painted_size;
 use crate::sequences::sent_column;
@@ -9,7 +9,7 @@ use gap::sound::bad_cell;
 ghost use mathlib.Core.Path.{_≡_};
 ghost use Rattle.window.specs.Sequences.{painted};
 ghost use Rattle.window.specs.Painting.{rowsOn, cursorOn, paintable, paintedInto, painting};
-ghost use Rattle.window.specs.Writing.{RowsIn, paintingOf};
+ghost use Rattle.window.specs.Writing.{RowsIn, outcomeOf};
 
 // The named rows are rows of the screen in their order, or none.
 fn rows_on(h: usize, first: usize, last: usize) -> bool
@@ -44,10 +44,10 @@ fn is_paintable(
 }
 
 // A refusal.
-fn unpainted(code: usize, place: usize) -> PaintAnswer
+fn unpainted(code: usize, place: usize) -> Painting
     ensures { λ a. ⌜ a ≡ record { code = code; place = place; count = 0 } ⌝ }
 {
-    PaintAnswer {
+    Painting {
         code: code,
         place: place,
         count: 0,
@@ -63,16 +63,16 @@ fn paint_counted(
     column: usize,
     screen: &[u8],
     out: &mut [u8],
-) -> PaintAnswer
+) -> Painting
     requires { ⌜ RowsIn w first last (now screen) ⌝ }
-    ensures { λ a. ⌜ paintingOf a (now (out .exit)) ≡ paintedInto (painted w first last row column (now (screen .entry))) (now (out .entry)) ⌝ }
+    ensures { λ a. ⌜ outcomeOf a (now (out .exit)) ≡ paintedInto (painted w first last row column (now (screen .entry))) (now (out .entry)) ⌝ }
 {
     let size = painted_size(w, first, last, row, column);
     if out.len() < size {
         return unpainted(7, 0);
     }
     let count = write_screen(w, first, last, row, sent_column(w, column), screen, out);
-    PaintAnswer {
+    Painting {
         code: 0,
         place: 0,
         count: count,
@@ -89,8 +89,8 @@ pub fn paint(
     column: usize,
     screen: &[u8],
     out: &mut [u8],
-) -> PaintAnswer
-    ensures { λ a. ⌜ paintingOf a (now (out .exit)) ≡ painting h w first last row column (now (screen .entry)) (now (out .entry)) ⌝ }
+) -> Painting
+    ensures { λ a. ⌜ outcomeOf a (now (out .exit)) ≡ painting h w first last row column (now (screen .entry)) (now (out .entry)) ⌝ }
 {
     if !is_paintable(h, w, first, last, row, column, screen) {
         return unpainted(1, 0);

@@ -43,7 +43,8 @@ fn with_rows<'a, 'b>(
     }
 }
 
-// A place goes behind what the writer holds, and the mark is the count.
+// A place goes behind what the writer holds. It is the last that is written, so the mark is handed back alone: it is the count.
+// (`t .exit .0` is the buffer as it is left.)
 fn with_place<'a>(t: Writer<'a>, row: usize, column: usize) -> usize
     requires { ⌜ t .at + length (placed row column) ≤ length (now (t .out)) ⌝ }
     ensures { λ n. ⌜ Wrote (t .entry .at) (placed row column) (now (t .entry .out)) n (now (t .exit .0)) ⌝ }

@@ -11,24 +11,27 @@ use Rattle.gap.specs.Sequence.{every, patch}
 use Rattle.gap.specs.Decimal.{digit, valueAfter, decimal}
 use Rattle.gap.specs.Layout.{printable}
 use Rattle.gap.specs.Written.{Wrote}
-use Rattle.gap.proofs.Laws.Tests.{and-left, and-right, cond-true, cond-false}
+use Rattle.gap.proofs.Laws.Tests.{and-left, and-right, and-both, cond-true, cond-false}
 use Rattle.gap.proofs.Laws.Decimals.{decimal-digits}
 use Rattle.gap.proofs.Laws.Runs.{length-patch, patch-none, patch-one}
 use Rattle.gap.proofs.Laws.Writers.{then}
 use Rattle.gap.proofs.Theorems.Decimals.{value-decimal}
 use Rattle.window.specs.Sequences.{placed}
-use Rattle.window.specs.Machine.{Machine, cells, rowNumber, columnNumber, reads, cellShown, within, goes, step, feed}
+use Rattle.window.specs.Machine.{Machine, cells, rowNumber, columnNumber, reads, cellShown, goes, step, feed}
 
 -- A machine with these cells at this place, no sequence begun.
 abbrev pub machine : List ℕ → ℕ → ℕ → Machine
 machine s row column = record { shows = s; row = row; column = column; reading = cells }
 
--- A number on the screen is its own nearest; behind the last it is the last.
-pub within-same : (most n : ℕ) → 1 ≤ n → n ≤ most → within most n ≡ n
-within-same most n low high = cond-false _ _ (ne-eqb n 0 (omega arith)) ∙ cond-true _ _ (le-leb n most high)
+-- The column behind a run of cells: the one that it comes to, or the last.
+abbrev pub within : ℕ → ℕ → ℕ
+within W n = cond (leb n W) n W
 
-pub within-most : (most n : ℕ) → 1 ≤ n → most < n → within most n ≡ most
-within-most most n low high = cond-false _ _ (ne-eqb n 0 (omega arith)) ∙ cond-false _ _ (lt-leb n most high)
+within-same : (W n : ℕ) → n ≤ W → within W n ≡ n
+within-same W n inside = cond-true _ _ (le-leb n W inside)
+
+pub within-most : (W n : ℕ) → W < n → within W n ≡ W
+within-most W n behind = cond-false _ _ (lt-leb n W behind)
 
 module _ (H W : ℕ) where
   pub feed-append : (xs ys : List ℕ) (m : Machine) → feed H W (xs ++ ys) m ≡ feed H W ys (feed H W xs m)
@@ -60,8 +63,8 @@ module _ (H W : ℕ) where
   column-read row n m =
       column-digits row 0 (decimal n) m (decimal-digits n) ∙ ap (λ k. reads m (columnNumber row k)) (value-decimal n)
 
-  -- A place that is sent: the machine goes there, or as near as the screen allows.
-  pub feed-placed : (row column : ℕ) (m : Machine) → m .reading ≡ cells → feed H W (placed row column) m ≡ goes H W row column m
+  -- A place that is sent: the machine goes there, if it can.
+  feed-placed : (row column : ℕ) (m : Machine) → m .reading ≡ cells → feed H W (placed row column) m ≡ goes H W row column m
   unfolding feed step placed
   feed-placed row column m ready =
       let rest : List ℕ = 59 ∷ (decimal column ++ (72 ∷ [])) in
@@ -76,7 +79,7 @@ module _ (H W : ℕ) where
       → feed H W (placed row column) m ≡ machine (m .shows) row column
   feed-place row column m top bottom left right ready =
       feed-placed row column m ready
-      ∙ ap₂ (λ i j. machine (m .shows) i j) (within-same H row top bottom) (within-same W column left right)
+      ∙ cond-true _ _ (and-both (and-both (le-leb 1 row top) (le-leb row H bottom)) (and-both (le-leb 1 column left) (le-leb column W right)))
 
 -- Two runs, the second behind the first, are one run.
 pub patch-behind : (a : ℕ) (xs ys s : List ℕ) → a + (length xs + length ys) ≤ length s
@@ -94,9 +97,7 @@ not-escape b p = ne-eqb b 27 (λ e. omega (arith, leb-true 32 b (and-left (leb 3
 
 -- The column behind a cell, as the machine has it.
 next-column : (W column : ℕ) → cond (ltb column W) (suc column) W ≡ within W (column + 1)
-next-column W column =
-    let same : suc column ≡ column + 1 = omega arith in
-    sym (cond-false _ _ (ne-eqb (column + 1) 0 (omega arith)) ∙ ap (λ n. cond (leb n W) n W) (sym same))
+next-column W column = let same : suc column ≡ column + 1 = omega arith in ap (λ n. cond (leb n W) n W) same
 
 module _ (H W row : ℕ) where
   feed-cell : (b : ℕ) (run s : List ℕ) (column : ℕ) → printable b ≡ true
@@ -115,7 +116,7 @@ module _ (H W row : ℕ) where
   unfolding feed every
   feed-run [] s column left right short fits p =
       let same : column ≡ column + 0 = omega arith in
-      ap₂ (λ t j. machine t row j) (sym (patch-none s (place column))) (sym (within-same W column left right) ∙ ap (within W) same)
+      ap₂ (λ t j. machine t row j) (sym (patch-none s (place column))) (sym (within-same W column right) ∙ ap (within W) same)
   feed-run (b ∷ []) s column left right short fits p =
       feed-cell b [] s column (and-left (printable b) _ p)
       ∙ ap₂ (λ t j. machine t row j) (patch-one s (place column) b (omega arith)) (next-column W column)

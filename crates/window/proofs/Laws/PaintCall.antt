@@ -14,11 +14,11 @@ use Rattle.gap.specs.Sequence.{patch}
 use Rattle.gap.specs.Written.{Wrote}
 use Rattle.gap.proofs.Laws.Tests.{cond-true, cond-false}
 use Rattle.editor.specs.Plain.{SIZE, TEXT}
-use Rattle.window.specs.declared.PaintAnswer.{PaintAnswer}
+use Rattle.window.specs.declared.Painting.{Painting}
 use Rattle.window.specs.Core.{rowsAndColumns}
 use Rattle.window.specs.Sequences.{placed, namedRows, sentRows, sentColumn, painted}
-use Rattle.window.specs.Painting.{Painting, ROOM, rowsOn, cursorOn, paintable, badCell, paintedInto, unlessBadCell, painting}
-use Rattle.window.specs.Writing.{RowsIn, paintedSize, paintingOf}
+use Rattle.window.specs.Painting.{PaintOutcome, ROOM, rowsOn, cursorOn, paintable, badCell, paintedInto, unlessBadCell, painting}
+use Rattle.window.specs.Writing.{RowsIn, paintedSize, outcomeOf}
 use Rattle.window.proofs.Laws.Paintable.{Paintable, paintable-facts, sent-on}
 use Rattle.window.proofs.Laws.Sequences.{cursor-place-short, named-most, rows-most, painted-size}
 
@@ -71,10 +71,10 @@ module _ (W first last row column : ℕ) (screen buffer : List ℕ) (rows : Rows
   counted-so : size ≡ length run
   counted-so = sized ∙ sym (painted-size row column rows)
 
-  pub room-refused : {a : PaintAnswer} → length buffer < size → a ≡ record { code = ROOM; place = 0; count = 0 }
-      → paintingOf a buffer ≡ paintedInto run buffer
+  pub room-refused : {a : Painting} → length buffer < size → a ≡ record { code = ROOM; place = 0; count = 0 }
+      → outcomeOf a buffer ≡ paintedInto run buffer
   room-refused over e =
-      ap (λ b. paintingOf b buffer) e ∙ sym (cond-false _ _ (lt-leb (length run) (length buffer) (omega (arith, counted-so))))
+      ap (λ b. outcomeOf b buffer) e ∙ sym (cond-false _ _ (lt-leb (length run) (length buffer) (omega (arith, counted-so))))
 
   module _ (fits : size ≤ length buffer) {sent : ℕ} (column-so : sent ≡ sentColumn W column) where
     same-run : run ≡ sentRows W first last screen ++ placed row sent
@@ -85,7 +85,7 @@ module _ (W first last row column : ℕ) (screen buffer : List ℕ) (rows : Rows
     room-enough = rw same-run at (rw counted-so at fits)
 
     pub all-written : {count : ℕ} {new : List ℕ} → Wrote 0 (sentRows W first last screen ++ placed row sent) buffer count new
-        → paintingOf (record { code = 0; place = 0; count = count }) new ≡ paintedInto run buffer
+        → outcomeOf (record { code = 0; place = 0; count = count }) new ≡ paintedInto run buffer
     all-written {count} {new} wrote =
         let counts : count ≡ length run = wrote .place ∙ omega (arith, ap length same-run) in
         let bytes : new ≡ patch 0 run buffer = rw same-run (wrote .bytes) in
@@ -101,13 +101,13 @@ rows-pass H W first last row column screen known passed =
     rows-in H W first last row column screen (sym known ∙ not-false _ passed)
 
 module _ (H W first last row column : ℕ) (screen buffer : List ℕ) {ok : Bool} (known : ok ≡ paintable H W first last row column screen) where
-  pub size-refused : {a : PaintAnswer} → not ok ≡ true → a ≡ record { code = SIZE; place = 0; count = 0 }
-      → paintingOf a buffer ≡ painting H W first last row column screen buffer
+  pub size-refused : {a : Painting} → not ok ≡ true → a ≡ record { code = SIZE; place = 0; count = 0 }
+      → outcomeOf a buffer ≡ painting H W first last row column screen buffer
   unfolding painting
-  size-refused bad e = ap (λ b. paintingOf b buffer) e ∙ sym (cond-false _ _ (sym known ∙ not-true _ bad))
+  size-refused bad e = ap (λ b. outcomeOf b buffer) e ∙ sym (cond-false _ _ (sym known ∙ not-true _ bad))
 
   -- What follows on the search for a byte that is not printed.
-  abbrev after : Search → Painting
+  abbrev after : Search → PaintOutcome
   after s = unlessBadCell s buffer (paintedInto (painted W first last row column screen) buffer)
 
   module _ (passed : not ok ≡ false) {found : Search} (search : found ≡ badCell screen) where
@@ -115,9 +115,9 @@ module _ (H W first last row column : ℕ) (screen buffer : List ℕ) {ok : Bool
     unfolding painting
     cells-decide = cond-true _ _ (sym known ∙ not-false _ passed) ∙ ap after (sym search)
 
-    pub text-refused : {a : PaintAnswer} (i : ℕ) → found ≡ Reached i → a ≡ record { code = TEXT; place = i; count = 0 }
-        → paintingOf a buffer ≡ painting H W first last row column screen buffer
-    text-refused i there e = ap (λ b. paintingOf b buffer) e ∙ sym (cells-decide ∙ ap after there)
+    pub text-refused : {a : Painting} (i : ℕ) → found ≡ Reached i → a ≡ record { code = TEXT; place = i; count = 0 }
+        → outcomeOf a buffer ≡ painting H W first last row column screen buffer
+    text-refused i there e = ap (λ b. outcomeOf b buffer) e ∙ sym (cells-decide ∙ ap after there)
 
     pub cells-printed : found ≡ Nowhere
         → paintedInto (painted W first last row column screen) buffer ≡ painting H W first last row column screen buffer

@@ -61,7 +61,7 @@ module _ (H W : ℕ) (screen : List ℕ) (wide : 1 ≤ W) (long : length screen 
       feed-append H W (placed (suc a) 1) row m
       ∙ (ap (feed H W row) (feed-place H W (suc a) 1 m (omega arith) (omega arith) (omega arith) wide ready)
       ∙ (feed-run H W (suc a) row (m .shows) 1 (omega arith) wide (omega arith) (omega (arith, room a 1 fits)) (part-printed ((suc a - 1) * W) W)
-      ∙ ap₂ (λ at j. machine (patch at row (m .shows)) (suc a) j) here (within-most W (1 + length row) (omega arith) (omega arith))))
+      ∙ ap₂ (λ at j. machine (patch at row (m .shows)) (suc a) j) here (within-most W (1 + length row) (omega arith))))
 
   -- n + 1 rows below row a are the first of them and the others.
   rows-patched : (a n : ℕ) (s : List ℕ) → a + suc n ≤ H → length s ≡ H * W

@@ -231,13 +231,3 @@ pub painted-sum : (W first last row column : ℕ) {rows place sent : ℕ} → ro
     → place ≡ length (placed row sent) → sent ≡ sentColumn W column → rows + place ≡ paintedSize W first last row column
 unfolding paintedSize
 painted-sum W first last row column rows-so place-so sent-so = rw (rows-so, place-so, sent-so)
-
--- ---- Room for two runs one behind the other
-
-module _ (xs ys : List ℕ) where
-  pub room-first : {room : ℕ} → length (xs ++ ys) ≤ room → length xs ≤ room
-  room-first room = omega (arith, length-append xs ys)
-
-  pub room-second : {next : ℕ} {old new : List ℕ} → length (xs ++ ys) ≤ length old → Wrote 0 xs old next new
-      → next + length ys ≤ length new
-  room-second room wrote = omega (arith, length-append xs ys, wrote .place, wrote-length wrote)

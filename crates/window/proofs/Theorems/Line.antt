@@ -9,26 +9,26 @@ use lib.ListN.{length, take}
 use borrow.Author.Tests.{le-leb}
 use Rattle.gap.proofs.Laws.Tests.{cond-true}
 use Rattle.editor.specs.declared.Key.{Key}
-use Rattle.editor.specs.Plain.{Plain, Outcome, refused, done, SIZE}
-use Rattle.editor.specs.Keys.{soundKey, pressed, fits, bounded, key}
+use Rattle.editor.specs.Plain.{Plain, Outcome, refused, done, SIZE, opening}
+use Rattle.editor.specs.Keys.{soundKey, pressed, fits, bounded, key, keys}
 use Rattle.editor.specs.Bytes.{quarter}
 use Rattle.window.specs.Words.{Session}
 use Rattle.window.specs.Window.{policy}
 use Rattle.window.specs.Core.{Lent, Called, T, lentOf, openedText, opened, finished, shown, keyed}
 use Rattle.window.specs.Terminal.{View, openingView, repaint, looked, viewed, picture}
 use Rattle.window.specs.Sequences.{sentColumn, painted}
-use Rattle.window.specs.Painting.{Painting, rowsOn, paintable, unpainted, painting}
+use Rattle.window.specs.Painting.{PaintOutcome, rowsOn, paintable, unpainted, painting}
 use Rattle.window.specs.Machine.{Machine, cells, feed, Line, bytesAfter, sent, openedLine, struckLine, typedLine, showing, enough}
 use Rattle.window.proofs.Laws.Window.{length-window}
 use Rattle.window.proofs.Laws.Rows.{repainted, repaint-all}
-use Rattle.window.proofs.Laws.Views.{some-rows, Good, recordOf, storesWith, viewOf, session-view, view-keyed, view-size, looked-good}
+use Rattle.window.proofs.Laws.Views.{tabled-facts, some-rows, Good, recordOf, storesWith, viewOf, session-view, view-keyed, view-size, looked-good}
 use Rattle.window.proofs.Laws.Machine.{machine}
 use Rattle.window.proofs.Laws.SentScreen.{painted-shown}
 use Rattle.window.proofs.Laws.PaintCall.{enough-room}
 use Rattle.window.proofs.Laws.SentViews.{cursorRow, cursorColumn, changed-on, every-on, view-paintable}
 use Rattle.window.proofs.Theorems.Refusals.{opening-done, opening-leaves, key-accepted, key-leaves}
 use Rattle.window.proofs.Theorems.Sessions.{opening-view, session-keyed}
-use Rattle.window.proofs.Theorems.DemandThree.{picture-printable, key-good}
+use Rattle.window.proofs.Theorems.DemandThree.{picture-printable, key-good, viewed-plain}
 use Rattle.window.proofs.Theorems.Painting.{painting-accepted, painting-writes}
 
 -- ---- What the routine gives after a call
@@ -40,11 +40,12 @@ unfolding painting paintable
 off-screen H W first last column screen buffer = rw (and-false (rowsOn H first last), and-false)
 
 -- A good view, some of its rows named, and a buffer with enough room.
-module _ (size : ℕ) (v : View) (good : Good size v) (first last : ℕ) (rows : rowsOn (v .frame .h) first last ≡ true) (buffer : List ℕ) (room : enough (v .frame .h) (v .frame .w) ≤ length buffer) where
+module _ (size : ℕ) (v : View) (good : Good size v) (first last : ℕ) (rows : rowsOn (v .frame .h) first last ≡ true)
+    (buffer : List ℕ) (room : enough (v .frame .h) (v .frame .w) ≤ length buffer) where
   abbrev run : List ℕ
   run = painted (v .frame .w) first last (cursorRow v) (cursorColumn v) (picture v)
 
-  abbrev answer : Painting
+  abbrev answer : PaintOutcome
   answer = painting (v .frame .h) (v .frame .w) first last (cursorRow v) (cursorColumn v) (picture v) buffer
 
   fit : paintable (v .frame .h) (v .frame .w) first last (cursorRow v) (cursorColumn v) (picture v) ≡ true
@@ -76,18 +77,53 @@ key-done : (size : ℕ) (k : Key) (p : Plain) → soundKey k ≡ true → fits s
 unfolding key bounded
 key-done size k p sound room = cond-true _ _ sound ∙ cond-true _ _ room
 
-module _ (s : Session) (k : Key) (b : Lent) (buffer : List ℕ) where
-  pub key-sent : keyed s k b .answer .code ≡ 0 → enough (s .frame .h) (s .frame .w) ≤ length buffer
-      → bytesAfter (keyed s k b) buffer .code ≡ 0
-  unfolding finished shown policy
-  key-sent accepts room =
-      let passed = key-accepted s k b .0 accepts in
-      let v = viewOf s (b .stores) in
-      let e = key-done (T (b .stores)) k (v .plain) (passed .1 .1 .0) (passed .1 .1 .1 .0) in
-      let good = looked-good (T (b .stores)) k v (session-view s b (passed .0) (passed .1 .0) .good) (done (pressed k (v .plain))) e in
-      ap (λ o. bytesAfter o buffer .code) (session-keyed s k b (passed .0) (passed .1 .0) ∙ ap (finished s b) e)
-      ∙ view-sent (T (b .stores)) (looked v (done (pressed k (v .plain)))) good _ _ (changed-on _ _ (b .screen) _) buffer room
+module _ (s : Session) (k : Key) (b : Lent) (accepts : keyed s k b .answer .code ≡ 0) where
+  -- The view that an accepted key leads to, and that the call's outcome is made from it.
+  abbrev before : View
+  before = viewOf s (b .stores)
 
+  abbrev outcome : Outcome
+  outcome = done (pressed k (before .plain))
+
+  carried-out : key (T (b .stores)) quarter k (before .plain) ≡ outcome
+  carried-out =
+      let passed = key-accepted s k b .0 accepts in
+      key-done (T (b .stores)) k (before .plain) (passed .1 .1 .0) (passed .1 .1 .1 .0)
+
+  next-good : Good (T (b .stores)) (looked before outcome)
+  next-good =
+      let passed = key-accepted s k b .0 accepts in
+      looked-good (T (b .stores)) k before (session-view s b (passed .0) (passed .1 .0) .good) outcome carried-out
+
+  key-outcome : keyed s k b ≡ finished s b outcome
+  key-outcome =
+      let passed = key-accepted s k b .0 accepts in
+      session-keyed s k b (passed .0) (passed .1 .0) ∙ ap (finished s b) carried-out
+
+  module _ (buffer : List ℕ) (room : enough (s .frame .h) (s .frame .w) ≤ length buffer) where
+    pub key-sent : bytesAfter (keyed s k b) buffer .code ≡ 0
+    unfolding finished shown policy
+    key-sent =
+        ap (λ o. bytesAfter o buffer .code) key-outcome
+        ∙ view-sent (T (b .stores)) (looked before outcome) next-good _ _ (changed-on _ _ (b .screen) _) buffer room
+
+    -- One key on any session, from a terminal that showed the screen as it was: it shows the new screen, with the cursor as reported.
+    pub key-shown : (m : Machine) → m .shows ≡ b .screen → m .reading ≡ cells
+        → let o = keyed s k b in
+        sent o (bytesAfter o buffer) m .terminal ≡ machine (o .lent .screen) (o .answer .row) (sentColumn (s .frame .w) (o .answer .column))
+    unfolding finished shown policy
+    key-shown m same ready =
+        let next = looked before outcome in
+        let long : length (b .screen) ≡ s .frame .h * s .frame .w = tabled-facts _ _ b (key-accepted s k b .0 accepts .0) .long in
+        let rows = changed-on (s .frame .h) (s .frame .w) (b .screen) (picture next) in
+        subst⁻¹
+        (λ o. sent o (bytesAfter o buffer) m .terminal ≡ machine (o .lent .screen) (o .answer .row) (sentColumn (s .frame .w) (o .answer .column)))
+        key-outcome
+        (view-fed (T (b .stores)) next next-good _ _ rows buffer room m (ap length same ∙ long) ready
+        ∙ ap (λ x. machine x (cursorRow next) (sentColumn (s .frame .w) (cursorColumn next)))
+        (ap (repaint (s .frame .w) _ _ (picture next)) same ∙ repainted (s .frame .h) (s .frame .w) (b .screen) (picture next) long (length-window _ _)))
+
+module _ (s : Session) (k : Key) (b : Lent) (buffer : List ℕ) where
   pub key-unsent : (keyed s k b .answer .code ≡ 0 → ⊥) → bytesAfter (keyed s k b) buffer ≡ unpainted SIZE 0 buffer
   key-unsent bad = ap (λ o. bytesAfter o buffer) (key-leaves s k b bad) ∙ off-screen _ _ _ _ _ _ buffer
 
@@ -141,20 +177,28 @@ module _ (size : ℕ) (k : Key) (v : View) (good : Good size v) where
             (repainted (v .frame .h) (v .frame .w) (picture v) (picture next) (length-window _ _) (length-window _ _));
       }
 
-  key-line : (at : Line) → OnLine size v at → OnLine size (looked v (key size quarter k (v .plain))) (struckLine k at)
+  pub key-line : (at : Line) → OnLine size v at → OnLine size (looked v (key size quarter k (v .plain))) (struckLine k at)
   unfolding struckLine
   key-line at on =
       let o = ap₂ (λ s b. keyed s k b) (on .session) (on .lent) ∙ view-keyed size v good (picture v) (length-window _ _) k in
       subst⁻¹ (OnLine size (looked v (key size quarter k (v .plain)))) (ap₂ (λ c m. lineAfter c (at .buffer) m) o (on .terminal))
       (outcome-line (key size quarter k (v .plain)) refl (at .buffer) (on .room))
 
-keys-line : (size : ℕ) (ks : List Key) (v : View) (at : Line) → Good size v → OnLine size v at → OnLine size (viewed size ks v) (typedLine ks at)
+-- Any list of keys, from any good view that the terminal shows.
+pub keys-line : (size : ℕ) (ks : List Key) (v : View) (at : Line) → Good size v → OnLine size v at
+    → OnLine size (viewed size ks v) (typedLine ks at)
 unfolding viewed typedLine
 keys-line size [] v at good on = on
 keys-line size (k ∷ ks) v at good on = keys-line size ks _ (struckLine k at) (key-good size k v good) (key-line size k v good at on)
 
--- After a good open, with room, and a terminal of the screen's size that showed anything: any list of keys.
-module _ (n H W : ℕ) (b : Lent) (accepts : opened n H W b .answer .code ≡ 0) (buffer : List ℕ) (room : enough H W ≤ length buffer) (m : Machine) (long : length (m .shows) ≡ H * W) (ready : m .reading ≡ cells) where
+-- What a host brings: a buffer with room, and a terminal of the screen's size, which may show anything and is in no sequence.
+pub record Ready (H W : ℕ) (buffer : List ℕ) (m : Machine) : Type 0 where
+  pub room : enough H W ≤ length buffer
+  pub size : length (m .shows) ≡ H * W
+  pub reading : m .reading ≡ cells
+
+-- After a good open, any list of keys.
+module _ (n H W : ℕ) (b : Lent) (accepts : opened n H W b .answer .code ≡ 0) (buffer : List ℕ) (m : Machine) (ready : Ready H W buffer m) where
   opening-line : OnLine (T (b .stores)) (openingView n H W b) (openedLine n H W b buffer m)
   unfolding openedLine openedText
   opening-line =
@@ -166,15 +210,18 @@ module _ (n H W : ℕ) (b : Lent) (accepts : opened n H W b .answer .code ≡ 0)
       (record {
         session = refl;
         lent = refl;
-        room = subst⁻¹ (λ size. enough H W ≤ size) (view-buffer (T (b .stores)) v good 1 H rows buffer room) room;
+        room = omega (arith, ready .room, view-buffer (T (b .stores)) v good 1 H rows buffer (ready .room));
         terminal =
-            view-fed (T (b .stores)) v good 1 H rows buffer room m long ready
+            view-fed (T (b .stores)) v good 1 H rows buffer (ready .room) m (ready .size) (ready .reading)
             ∙ ap (λ s. machine s (cursorRow v) (sentColumn W (cursorColumn v)))
-            (repaint-all H W (m .shows) (picture v) long (length-window _ _) some);
+            (repaint-all H W (m .shows) (picture v) (ready .size) (length-window _ _) some);
       })
 
-  -- The terminal shows the window of the plain document after the same keys, and its cursor.
+  -- The terminal shows the window of the plain document after the same keys, and its cursor; and that document is the plain editor's.
   pub demand-three-line : (ks : List Key)
-      → typedLine ks (openedLine n H W b buffer m) .terminal ≡ showing (viewed (T (b .stores)) ks (openingView n H W b))
-  demand-three-line ks =
-      keys-line (T (b .stores)) ks (openingView n H W b) (openedLine n H W b buffer m) (opening-view n H W b accepts) opening-line .terminal
+      → (typedLine ks (openedLine n H W b buffer m) .terminal ≡ showing (viewed (T (b .stores)) ks (openingView n H W b)))
+      × (viewed (T (b .stores)) ks (openingView n H W b) .plain ≡ keys (T (b .stores)) quarter ks (opening (take n (b .stores .text))))
+  demand-three-line ks = (
+    keys-line (T (b .stores)) ks (openingView n H W b) (openedLine n H W b buffer m) (opening-view n H W b accepts) opening-line .terminal,
+    viewed-plain (T (b .stores)) ks (openingView n H W b),
+  )

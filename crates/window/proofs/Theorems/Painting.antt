@@ -19,13 +19,13 @@ use Rattle.gap.proofs.Laws.Nearest.{Least, reached-least}
 use Rattle.gap.proofs.Laws.Writers.{wrote-length, wrote-front, wrote-behind}
 use Rattle.editor.specs.Plain.{SIZE, TEXT}
 use Rattle.window.specs.Sequences.{painted}
-use Rattle.window.specs.Painting.{Painting, ROOM, paintable, badCell, unpainted, unlessBadCell, painting}
+use Rattle.window.specs.Painting.{PaintOutcome, ROOM, paintable, badCell, unpainted, unlessBadCell, painting}
 use Rattle.window.proofs.Laws.Order.{Check, check, firstFailed, Passing, exactly, accepted-exactly}
 use Rattle.window.proofs.Theorems.Refusals.{none, none-fails}
 
 -- A run put at the front of a buffer.
-abbrev pub fronted : List ℕ → List ℕ → Painting
-fronted run buffer = record { code = 0; place = 0; count = length run; buffer = patch 0 run buffer }
+abbrev pub atFront : List ℕ → List ℕ → PaintOutcome
+atFront run buffer = record { code = 0; place = 0; count = length run; buffer = patch 0 run buffer }
 
 -- The run is what the buffer begins with, the bytes behind it are as they were, and it is as long as it was.
 pub record Fronted (run old : List ℕ) (count : ℕ) (new : List ℕ) : Type 0 where
@@ -45,7 +45,7 @@ module _ (H W first last row column : ℕ) (screen buffer : List ℕ) where
   abbrev fit : Bool
   fit = paintable H W first last row column screen
 
-  abbrev answer : Painting
+  abbrev answer : PaintOutcome
   answer = painting H W first last row column screen buffer
 
   -- The checks, in order.
@@ -53,8 +53,8 @@ module _ (H W first last row column : ℕ) (screen buffer : List ℕ) where
   paintChecks = check SIZE fit ∷ check TEXT (every printable screen) ∷ check ROOM (leb (length run) (length buffer)) ∷ []
 
   -- What is answered, by the three tests.
-  choice : Bool → Search → Bool → Painting
-  choice t s u = cond t (unlessBadCell s buffer (cond u (fronted run buffer) (unpainted ROOM 0 buffer))) (unpainted SIZE 0 buffer)
+  choice : Bool → Search → Bool → PaintOutcome
+  choice t s u = cond t (unlessBadCell s buffer (cond u (atFront run buffer) (unpainted ROOM 0 buffer))) (unpainted SIZE 0 buffer)
 
   code-of : (t : Bool) (s : Search) (u : Bool)
       → choice t s u .code ≡ firstFailed (check SIZE t ∷ check TEXT (none s) ∷ check ROOM u ∷ [])
@@ -125,14 +125,14 @@ module _ (H W first last row column : ℕ) (screen buffer : List ℕ) where
   painting-leaves bad = leaves fit (badCell screen) (leb (length run) (length buffer)) bad
 
   -- Accepted, the bytes stand at the front of the buffer, which has room for them.
-  accepts : (t : Bool) (s : Search) (u : Bool) → choice t s u .code ≡ 0 → choice t s u ≡ fronted run buffer
+  accepts : (t : Bool) (s : Search) (u : Bool) → choice t s u .code ≡ 0 → choice t s u ≡ atFront run buffer
   unfolding choice
   accepts false s u e = absurd (omega (arith, e))
   accepts true (Reached i) u e = absurd (omega (arith, e))
   accepts true Nowhere false e = absurd (omega (arith, e))
   accepts true Nowhere true e = refl
 
-  pub painting-done : answer .code ≡ 0 → answer ≡ fronted run buffer
+  pub painting-done : answer .code ≡ 0 → answer ≡ atFront run buffer
   unfolding painting choice
   painting-done e = accepts fit (badCell screen) (leb (length run) (length buffer)) e
 

@@ -30,8 +30,8 @@ holding out mark = record { out = out; at = mark }
 abbrev pub slice : RefT (List ℕ) → Val
 slice out = sliceVal (out .ptr) (length (out .now))
 
-abbrev pub machine : Val → ℕ → Val
-machine buffer mark = vstruct (vcons buffer (vcons (vint w64 mark) vnil))
+abbrev pub valueOf : Val → ℕ → Val
+valueOf buffer mark = vstruct (vcons buffer (vcons (vint w64 mark) vnil))
 
 -- The buffer's lifetime, under the name that every signature here gives it.
 abbrev pub called : Lft → NamedLft
@@ -44,16 +44,16 @@ fields-own κ out mark vss = fsep (MutSlice (named 0) κ u8 .own out (vss .0)) (
 module _ {M : Type 1} {𝓤 : URA M} {H : Heap 𝓤} {A : Atoms 𝓤} {K : Type 0} {W : Given 𝓤 H A} {Γ : List (Item 𝓤)} {G : Goal 𝓤 H} where
   pub apart : K → (κ : Lft) (out : RefT (List ℕ)) (mark : ℕ)
       → Step K W (‵ (MutSlice (named 0) κ u8 .own out (slice out ∷ [])) ∷ Γ) G
-      (‵ (T.the-row (called κ) .own (holding out mark) (machine (slice out) mark ∷ [])) ∷ Γ) G
+      (‵ (T.the-row (called κ) .own (holding out mark) (valueOf (slice out) mark ∷ [])) ∷ Γ) G
   apart t κ out mark = step (λ s.
-      use1 W (given (machine (slice out) mark ∷ [] ≡ machine (slice out) mark ∷ [])
+      use1 W (given (valueOf (slice out) mark ∷ [] ≡ valueOf (slice out) mark ∷ [])
       (‵ (all-own (T.the-type (called κ) .parts) (T′.the-laws (called κ)) (out, (mark, tt)))))
-      (own-open 𝓤 H A W (T.the-type (called κ)) (T′.the-laws (called κ)) (out, (mark, tt)) (machine (slice out) mark)) $
+      (own-open 𝓤 H A W (T.the-type (called κ)) (T′.the-laws (called κ)) (out, (mark, tt)) (valueOf (slice out) mark)) $
       learn t (λ _. fsplit t $ move t (1 ∷ []) $ drop t $ s))
 
   pub together : K → (κ : Lft) (out : RefT (List ℕ)) (buffer : Val) (mark : ℕ) → mark < 2 ^ 64
-      → Step K W (‵ (T.the-row (called κ) .own (holding out mark) (machine buffer mark ∷ [])) ∷ Γ) G (‵ (MutSlice (named 0) κ u8 .own out (buffer ∷ [])) ∷ Γ) G
+      → Step K W (‵ (T.the-row (called κ) .own (holding out mark) (valueOf buffer mark ∷ [])) ∷ Γ) G (‵ (MutSlice (named 0) κ u8 .own out (buffer ∷ [])) ∷ Γ) G
   together t κ out buffer mark fits = step (λ s.
       nothing t $ count t mark fits $ fjoin t $ move t (1 ∷ 0 ∷ []) $ fjoin t $
-      use1 W (‵ (T.the-row (called κ) .own (holding out mark) (machine buffer mark ∷ [])))
+      use1 W (‵ (T.the-row (called κ) .own (holding out mark) (valueOf buffer mark ∷ [])))
       (makes 𝓤 H A W (MutSlice (named 0) κ u8 ∷ usize ∷ []) (fields-own κ out mark) (buffer ∷ [], (vint w64 mark ∷ [], tt))) $ s)

@@ -26,7 +26,7 @@ use denote.Triple.End.{Kepts}
 use denote.Triple.Walked.{Stay, Stays, Fields, stay-dropped, gave-slice, stay-struct-at, stay-declared}
 use denote.Triple.Walked.{Goes, AllGo, goes-gave-slice, goes-struct-at, goes-declared}
 use Rattle.window.specs.declared.writer.Writer.{Writer}
-use Rattle.window.proofs.Walks.Apart.{holding, slice, machine}
+use Rattle.window.proofs.Walks.Apart.{holding, slice, valueOf}
 use Rattle.window.proofs.Walks.Steps.{idle}
 use Rattle.window.proofs.writer.Writer as T
 
@@ -77,10 +77,10 @@ said-of out new _ = fsep (finally u8 (out .name) new) (fsep ftrue ftrue)
 
 module _ {M : Type 1} {𝓤 : URA M} {H : Heap 𝓤} {A : Atoms 𝓤} {K : Type 0} {W : Given 𝓤 H A} {Γ : List (Item 𝓤)} {G : Goal 𝓤 H} where
   pub handed : K → (κ : Lft) (out : RefT (List ℕ)) (mark : ℕ) (new : List ℕ)
-      → Step K W (‵ (handed-on .has (κ, tt) (holding out mark) (new, tt) (machine (slice out) mark ∷ [])) ∷ Γ) G (‵ (finally u8 (out .name) new) ∷ Γ) G
+      → Step K W (‵ (handed-on .has (κ, tt) (holding out mark) (new, tt) (valueOf (slice out) mark ∷ [])) ∷ Γ) G (‵ (finally u8 (out .name) new) ∷ Γ) G
   handed t κ out mark new = step (λ s.
       nothing t $ idle t 1 $ move t (1 ∷ 0 ∷ []) $ fjoin t $
-      use1 W (‵ (handed-on .has (κ, tt) (holding out mark) (new, tt) (machine (slice out) mark ∷ [])))
+      use1 W (‵ (handed-on .has (κ, tt) (holding out mark) (new, tt) (valueOf (slice out) mark ∷ [])))
       (makes 𝓤 H A W (MutSlice (named 0) κ u8 ∷ usize ∷ []) (said-of out new) (slice out ∷ [], (vint w64 mark ∷ [], tt))) $ s)
 
 pub handed-on-goes : {M : Type 1} (𝓤 : URA M) (H : Heap 𝓤) (A : Atoms 𝓤) (W : Given 𝓤 H A)

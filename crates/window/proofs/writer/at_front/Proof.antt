@@ -27,7 +27,7 @@ use denote.Triple.Entry.{Args, Vals, onEntry}
 use denote.Triple.Spec.{Meets, tripleOf}
 use denote.Triple.Table.{entered}
 use denote.Triple.Walked.{says, Stays, walkOf, ends-at, walked}
-use Rattle.window.proofs.Walks.Apart.{holding, slice, machine, together}
+use Rattle.window.proofs.Walks.Apart.{holding, slice, valueOf, together}
 use Rattle.window.proofs.Walks.Held.{let-go, let-go-goes}
 use Rattle.window.proofs.Walks.Steps.{idle, arg, stores, gone, keeps}
 use Rattle.window.proofs.writer.at_front as at-front
@@ -49,11 +49,11 @@ module _ {M : Type 1} (𝓤 : URA M) (H : Heap 𝓤) (A : Atoms 𝓤) (W : Given
   abbrev Post : Val → SProp 𝓤
   Post = walkOf 𝓤 H A at-front.ended stayed (at-front.clauses 𝓤 H A mem run) .post (((κ, tt), (q, tt), tt, passed, values), tt)
 
-  exits : ent 𝓤 (onEntry 𝓤 H A at-front.signature (κ, tt) (q, tt) passed values) (Post (machine (slice out) 0))
+  exits : ent 𝓤 (onEntry 𝓤 H A at-front.signature (κ, tt) (q, tt) passed values) (Post (valueOf (slice out) 0))
   exits =
       qed W ((‵ (flft κ q) ⊛ ‵ ftrue) ∷ ‵ (owns (MutSlice (named 0) κ u8 ∷ []) passed values) ∷ []) ∵
       suffices ! _ (ends-at 𝓤 H A at-front.ended stayed (at-front.clauses 𝓤 H A mem run) W (((κ, tt), (q, tt), tt, passed, values), tt)
-      (machine (slice out) 0) (holding out 0) (tt, tt) (tt, tt)) $
+      (valueOf (slice out) 0) (holding out 0) (tt, tt) (tt, tt)) $
       says ! (refl, refl) $ frame ! $ fsplit ! $ move ! (1 ∷ []) $ idle ! 1 $ frame ! $
       -- [the buffer]
       together ! κ out (slice out) 0 (lit< tt) $ done !

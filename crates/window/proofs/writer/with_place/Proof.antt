@@ -37,7 +37,7 @@ use denote.Triple.Walked.{says, needs, Stays, walkOf, ends-at, walked}
 use Rattle.gap.specs.Written.{Wrote}
 use Rattle.gap.proofs.Laws.Writers.{wrote-length}
 use Rattle.window.specs.Sequences.{placed}
-use Rattle.window.proofs.Walks.Apart.{holding, slice, machine, called, apart}
+use Rattle.window.proofs.Walks.Apart.{holding, slice, valueOf, called, apart}
 use Rattle.window.proofs.Walks.Held.{let-go, let-go-goes, number-quiet, handed-on, handed, handed-on-goes}
 use Rattle.window.proofs.Walks.Steps.{promise, count, idle, arg, stores, stored, gone, counted, calls, keeps}
 use Rattle.window.proofs.writer.Writer as T
@@ -65,7 +65,7 @@ module _ {M : Type 1} (𝓤 : URA M) (H : Heap 𝓤) (A : Atoms 𝓤) (W : Given
   passed = (holding out mark, (row, (column, tt)))
 
   abbrev values : Vals with-place.signature (κ, tt)
-  values = (machine (slice out) mark ∷ [], (vint w64 row ∷ [], (vint w64 column ∷ [], tt)))
+  values = (valueOf (slice out) mark ∷ [], (vint w64 row ∷ [], (vint w64 column ∷ [], tt)))
 
   abbrev Post : Val → SProp 𝓤
   Post = walkOf 𝓤 H A with-place.ended stayed (with-place.clauses 𝓤 H A mem run) .post (((κ, tt), (q, tt), tt, passed, values), tt)
@@ -98,13 +98,13 @@ module _ {M : Type 1} (𝓤 : URA M) (H : Heap 𝓤) (A : Atoms 𝓤) (W : Given
       handed ! κ out mark new $ nothing ! $ idle ! 2 $ move ! (1 ∷ 0 ∷ []) $ fjoin ! $ frame ! $ count ! next next-fits $ done !
 
   module _ (C : Calls 𝓤 H) (Λ : Loops 𝓤 H) (fm : FmC 𝓤 H (W .laws) C) (known : Triple 𝓤 (C #put-place) (PutPlace 𝓤 H A mem run)) where
-    walk : Is (T.the-row (called κ)) (holding out mark) (machine (slice out) mark ∷ []) → Room u8 (length (out .now))
+    walk : Is (T.the-row (called κ)) (holding out mark) (valueOf (slice out) mark ∷ []) → Room u8 (length (out .now))
         → mark + length (placed row column) ≤ length (out .now)
         → ent 𝓤 (onEntry 𝓤 H A with-place.signature (κ, tt) (q, tt) passed values)
-        (WpFn 𝓤 H C Λ code.function (machine (slice out) mark ∷ vint w64 row ∷ vint w64 column ∷ []) Post)
+        (WpFn 𝓤 H C Λ code.function (valueOf (slice out) mark ∷ vint w64 row ∷ vint w64 column ∷ []) Post)
     walk is room fits =
         qed W ((‵ (flft κ q) ⊛ ‵ ftrue) ∷ ‵ (owns (T.the-row (called κ) ∷ usize ∷ usize ∷ []) passed values) ∷ []) ∵
-        enter ! C Λ code.function (machine (slice out) mark ∷ vint w64 row ∷ vint w64 column ∷ []) _ $
+        enter ! C Λ code.function (valueOf (slice out) mark ∷ vint w64 row ∷ vint w64 column ∷ []) _ $
         alloc1 ! (λ l₀. alloc1 ! (λ l₁. alloc1 ! (λ l₂. alloc1 ! (λ l₃. alloc1 ! (λ l₄. alloc1 ! (λ l₅. alloc1 ! (λ l₆. alloc0 ! $ params1 ! $
         pass1 ! (init ! 10 refl (LL.lawful (T.the-type (called κ)) (T′.the-laws (called κ)) 𝓤 H A W .typed (holding out mark) _ is .0)) $
         pass1 ! (init ! 8 refl (tt, record { fits = row-fits })) $ pass1 ! (init ! 6 refl (tt, record { fits = column-fits })) $ pass0 ! $

@@ -41,7 +41,7 @@ use Rattle.gap.proofs.Laws.Writers.{wrote-length}
 use Rattle.window.specs.Sequences.{sentRows}
 use Rattle.window.specs.Writing.{RowsIn}
 use Rattle.window.proofs.Laws.Writer.{wrote-filled}
-use Rattle.window.proofs.Walks.Apart.{holding, slice, machine, called, apart, together}
+use Rattle.window.proofs.Walks.Apart.{holding, slice, valueOf, called, apart, together}
 use Rattle.window.proofs.Walks.Held.{let-go, let-go-goes, number-quiet}
 use Rattle.window.proofs.Walks.LentAgain.{renamed, Lent, lend, back}
 use Rattle.window.proofs.Walks.Steps.{both-needed, both-said, promise, count, idle, arg, stores, stored, gone, counted, calls, keeps}
@@ -80,7 +80,7 @@ module _ {M : Type 1} (𝓤 : URA M) (H : Heap 𝓤) (A : Atoms 𝓤) (W : Given
   passed = (holding out mark, (w, (first, (last, (screen, tt)))))
 
   abbrev values : Vals with-rows.signature κs
-  values = (machine (slice out) mark ∷ [], (vint w64 w ∷ [], (vint w64 first ∷ [], (vint w64 last ∷ [], (slice screen ∷ [], tt)))))
+  values = (valueOf (slice out) mark ∷ [], (vint w64 w ∷ [], (vint w64 first ∷ [], (vint w64 last ∷ [], (slice screen ∷ [], tt)))))
 
   abbrev Post : Val → SProp 𝓤
   Post = walkOf 𝓤 H A with-rows.ended stayed (with-rows.clauses 𝓤 H A mem run) .post ((κs, qs, tt, passed, values), tt)
@@ -110,10 +110,10 @@ module _ {M : Type 1} (𝓤 : URA M) (H : Heap 𝓤) (A : Atoms 𝓤) (W : Given
   abbrev AtEnd : List ℕ → List (Item 𝓤)
   AtEnd new = ‵ (flft κ q) ∷ ‵ (flft μ s) ∷ ‵ (MutSlice (named 0) κ u8 .own (at-last out new) (slice out ∷ [])) ∷ []
 
-  exits : (next : ℕ) (new : List ℕ) → next < 2 ^ 64 → Wrote mark rows (out .now) next new → ent 𝓤 (⋆ 𝓤 H A (AtEnd new)) (Post (machine (slice out) next))
+  exits : (next : ℕ) (new : List ℕ) → next < 2 ^ 64 → Wrote mark rows (out .now) next new → ent 𝓤 (⋆ 𝓤 H A (AtEnd new)) (Post (valueOf (slice out) next))
   exits next new next-fits wrote =
       qed W (AtEnd new) ∵
-      suffices ! _ (ends-at 𝓤 H A with-rows.ended stayed (with-rows.clauses 𝓤 H A mem run) W ((κs, qs, tt, passed, values), tt) (machine (slice out) next)
+      suffices ! _ (ends-at 𝓤 H A with-rows.ended stayed (with-rows.clauses 𝓤 H A mem run) W ((κs, qs, tt, passed, values), tt) (valueOf (slice out) next)
       (holding (at-last out new) next) ((tt, tt), (tt, (tt, (tt, (tt, tt))))) (tt, (tt, (tt, (tt, (tt, tt)))))) $
       says ! (wrote-filled (holding out mark) rows wrote) $
       nothing ! $ move ! (1 ∷ 2 ∷ 0 ∷ []) $ group ! 3 $ frame ! $ nothing ! $ idle ! 5 $ frame ! $
@@ -121,14 +121,14 @@ module _ {M : Type 1} (𝓤 : URA M) (H : Heap 𝓤) (A : Atoms 𝓤) (W : Given
       together ! κ (at-last out new) (slice out) next next-fits $ done !
 
   module _ (C : Calls 𝓤 H) (Λ : Loops 𝓤 H) (fm : FmC 𝓤 H (W .laws) C) (known : Triple 𝓤 (C #put-rows) (PutRows 𝓤 H A mem run)) where
-    walk : Is (T.the-row (called κ)) (holding out mark) (machine (slice out) mark ∷ []) → Room u8 (length (out .now)) → Room u8 (length (screen .now))
+    walk : Is (T.the-row (called κ)) (holding out mark) (valueOf (slice out) mark ∷ []) → Room u8 (length (out .now)) → Room u8 (length (screen .now))
         → RowsIn w first last (screen .now) → mark + length rows ≤ length (out .now)
         → ent 𝓤 (onEntry 𝓤 H A with-rows.signature κs qs passed values)
-        (WpFn 𝓤 H C Λ code.function (machine (slice out) mark ∷ vint w64 w ∷ vint w64 first ∷ vint w64 last ∷ slice screen ∷ []) Post)
+        (WpFn 𝓤 H C Λ code.function (valueOf (slice out) mark ∷ vint w64 w ∷ vint w64 first ∷ vint w64 last ∷ slice screen ∷ []) Post)
     walk is room screen-room inside fits =
         qed W ((‵ (flft κ q) ⊛ ‵ (flft μ s) ⊛ ‵ ftrue)
         ∷ ‵ (owns (T.the-row (called κ) ∷ usize ∷ usize ∷ usize ∷ ShrSlice (named 1) μ u8 ∷ []) passed values) ∷ []) ∵
-        enter ! C Λ code.function (machine (slice out) mark ∷ vint w64 w ∷ vint w64 first ∷ vint w64 last ∷ slice screen ∷ []) _ $
+        enter ! C Λ code.function (valueOf (slice out) mark ∷ vint w64 w ∷ vint w64 first ∷ vint w64 last ∷ slice screen ∷ []) _ $
         alloc1 ! (λ l₀. alloc1 ! (λ l₁. alloc1 ! (λ l₂. alloc1 ! (λ l₃. alloc1 ! (λ l₄. alloc1 ! (λ l₅.
         alloc1 ! (λ l₆. alloc1 ! (λ l₇. alloc1 ! (λ l₈. alloc1 ! (λ l₉. alloc1 ! (λ l₁₀. alloc1 ! (λ l₁₁. alloc0 ! $ params1 ! $
         pass1 ! (init ! 20 refl (LL.lawful (T.the-type (called κ)) (T′.the-laws (called κ)) 𝓤 H A W .typed (holding out mark) _ is .0)) $
