@@ -1,5 +1,6 @@
 /* Opens a small deck, presses some keys and prints what each call answers and the bytes that a terminal is sent then. */
 #include <stdio.h>
+#include <stdlib.h>
 #include <string.h>
 
 #include "chidukwore.h"
@@ -14,6 +15,10 @@ static void send(struct chidukwore_answer a)
 {
     struct chidukwore_painting painting =
         chidukwore_paint(ROWS, COLUMNS, a.first, a.last, a.row, a.column, screen, sizeof screen, buffer, sizeof buffer);
+    if (painting.code != CHIDUKWORE_OK) {
+        fprintf(stderr, "the painting is refused: %zu\n", painting.code);
+        exit(EXIT_FAILURE);
+    }
     printf("  sends ");
     for (size_t i = 0; i < painting.count; i++)
         buffer[i] == 27 ? printf("\\e") : putchar(buffer[i]);

@@ -29,7 +29,8 @@ extern "C" {
 /* Refusals. A call gives the first that applies: opening checks 1, 2, 3, a key checks 1, 4, 5, 6, painting checks 1, 3, 7. */
 enum {
     CHIDUKWORE_OK = 0,
-    CHIDUKWORE_SIZE = 1,    /* a store's length, rows or columns are not as above; painting: or the named rows or the cursor are off the screen */
+    CHIDUKWORE_SIZE = 1,    /* a store's length, rows or columns are not as above; painting: or the named rows are off the screen, out of
+                               order, or 0 and another; or the cursor is off the screen */
     CHIDUKWORE_LONG = 2,    /* opening: the stated length is more than T */
     CHIDUKWORE_TEXT = 3,    /* opening: a byte of the text is neither 10 nor 32 to 126; painting: a byte of the screen is not 32 to 126;
                                place is its index, from 0 */

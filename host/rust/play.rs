@@ -1,6 +1,6 @@
 //! Plays a script of the bench program on a real terminal: writes the bytes that the terminal is sent.
 //!
-//! play SCRIPT            in a terminal that is at least as large as the script's screen
+//! play SCRIPT            in a terminal that is as large as the script's screen
 //! play --frames SCRIPT   for a program that drives one: before the bytes of each call stands a line with their number, 0 for a refusal
 //!
 //! SCRIPT is a file, or - for standard input.

@@ -1,5 +1,5 @@
 //! Scripts of the bench program for other hosts: docs/RULES.md, section 9, says how one is written. Here it is read as a whole before
-//! anything is run.
+//! anything is run, and the bench program's two limits are not applied: at most 8,192 bytes of input, and a store of at most 4,096.
 
 use crate::chidukwore::{insert, Key, FIND, QUOTE, RECALL, REPLACE, UPFIND};
 

@@ -48,6 +48,7 @@ impl Bench {
     fn send(&self, answer: Answer) {
         let mut buffer = [0; chidukwore::enough(ROWS, COLUMNS)];
         let painting = chidukwore::paint(ROWS, COLUMNS, answer, &self.screen, &mut buffer);
+        assert_eq!(painting.code, 0, "screen and answer are the core's own, and the buffer is large enough");
         println!("  sends {}", String::from_utf8_lossy(&buffer[..painting.count]).replace('\x1b', "\\e"));
     }
 }
