@@ -3,7 +3,7 @@ pub mod Quarters
 pub mod Session
 pub mod Outcomes
 pub mod Sides
-pub mod Turns
+pub mod SideEdits
 pub mod States
 pub mod RowScans
 pub mod MatchTests
@@ -15,3 +15,4 @@ pub mod HandedOver
 pub mod Fitting
 pub mod FindReplace
 pub mod ReplaceRoom
+pub mod Opening

@@ -1,11 +1,11 @@
 -- The plain state as record and stores: writing it down, reading it back, and the session test without the window's part.
 -- T is the length of the text store, Q that of a quarter of the side store.
-use Rattle.editor.specs.Words.{List, [], _++_, Bool, true, false, _&&_, _||_, cond, ℕ, _*_, eqb, leb, length, Mode, Main, Quoted, Key, Sizes, Lengths}
+use Rattle.editor.specs.Words.{List, [], _++_, Bool, true, _&&_, _||_, ℕ, _*_, eqb, leb, length, Mode, Main, Quoted, Sizes, Lengths}
 use Rattle.gap.specs.Sequence.{part}
 use Rattle.gap.specs.Doc.{Doc}
 use Rattle.gap.specs.Layout.{gapped, paired, ungap, unpair, soundGap, soundPair}
-use Rattle.editor.specs.Plain.{Side, Plain, SIZE, SESSION, Outcome, refused, done}
-use Rattle.editor.specs.Keys.{key}
+use Rattle.editor.specs.declared.EditorReply.{EditorReply}
+use Rattle.editor.specs.Plain.{Side, Plain, quiet, Outcome, refused, done}
 
 -- The stores that the editor works on; the screen is the window's.
 pub record Stores : Type 0 where
@@ -89,32 +89,19 @@ editorOk Q n b =
     && ((soundPair (n .pl) 0 (quarterOf Q 2 (b .side)) && soundPair (n .xl) (n .xr) (quarterOf Q 3 (b .side)))
     && ((oneHalf (n .main) && oneHalf (n .quoted)) && unquoted (n .mode) (n .quoted))))
 
--- What this layer's key call gives: 0 or a refusal's number, steps, bell, the record's lengths and the stores.
+-- What this layer's key call gives: its reply and the stores.
 pub record Edited : Type 0 where
-  pub code : ℕ
-  pub steps : ℕ
-  pub bell : Bool
-  pub lengths : Lengths
+  pub reply : EditorReply
   pub stores : Stores
 
 -- Refused, it gives back what it was given. (01, refusals: what a refusal leaves.)
-abbrev pub unedited : Lengths → Stores → ℕ → Edited
-unedited n b code = record { code = code; steps = 0; bell = false; lengths = n; stores = b }
+abbrev pub unedited : ℕ → Lengths → EditorReply
+unedited code n = record { code = code; report = quiet; lengths = n }
 
 abbrev pub editedTo : ℕ → Lengths → Stores → Outcome → Edited
-editedTo Q n b (refused code) = unedited n b code
+editedTo Q n b (refused code) = record { reply = unedited code n; stores = b }
 editedTo Q n b (done did) =
     record {
-      code = 0;
-      steps = did .steps;
-      bell = did .bell;
-      lengths = lengthsOf (did .state);
+      reply = record { code = 0; report = did .report; lengths = lengthsOf (did .state) };
       stores = storesOf (length (b .text)) Q (did .state);
     }
-
--- SIZE, then SESSION, then what the plain editor says of the plain state held.
-unfoldable pub edited : ℕ → Lengths → Key → Stores → Edited
-edited Q n k b =
-    cond (sized Q b)
-    (cond (editorOk Q n b) (editedTo Q n b (key (length (b .text)) Q k (plainOf Q n b))) (unedited n b SESSION))
-    (unedited n b SIZE)

@@ -8,7 +8,8 @@ use Rattle.gap.specs.Doc.{Doc, empty, content, move, delete, times, removed, sp
 use Rattle.gap.specs.Nearest.{distance}
 use Rattle.gap.specs.Layout.{allowed}
 use Rattle.editor.specs.Places.{isAt}
-use Rattle.editor.specs.Plain.{Side, emptySide, Plain, Did, quiet, rang, went, within, KEY, FULL, Outcome, refused, done}
+use Rattle.editor.specs.Plain.{Side, emptySide, Plain, quiet, rang, went, Did, reporting, within, Outcome, refused, done}
+use Rattle.editor.specs.Refusals.{KEY, FULL, Check, check, unless}
 
 -- Of the twenty function keys two are never carried out. (01, refusals: KEY.)
 abbrev pub soundFunction : Action → Direction → Place → Bool
@@ -37,23 +38,23 @@ soundKey Replace = true
 
 -- The byte goes in before the cursor. (01, plain editor: insertion.)
 unfoldable pub inserted : ℕ → Side → Did Side
-inserted b s = quiet (record { text = splice 0 0 (record { l = b ∷ []; r = [] }) (s .text); recall = s .recall })
+inserted b s = reporting quiet (record { text = splice 0 0 (record { l = b ∷ []; r = [] }) (s .text); recall = s .recall })
 
 -- A function key at its distance: that many single steps. A deletion leaves what it took as recall text, even where it took nothing;
 -- a move leaves the recall text alone. Nowhere rings. (01, plain editor: distance, recall text. DECISIONS B4, B30.)
 unfoldable pub carried : Action → Direction → Search → Side → Did Side
-carried Move way (Reached n) s = went n (record { text = times (move way) n (s .text); recall = s .recall })
-carried Move way Nowhere s = rang s
+carried Move way (Reached n) s = reporting (went n) (record { text = times (move way) n (s .text); recall = s .recall })
+carried Move way Nowhere s = reporting rang s
 carried Delete way (Reached n) s =
-    went n (record { text = times (delete way) n (s .text); recall = removed way n (s .text) })
-carried Delete way Nowhere s = rang (record { text = s .text; recall = empty })
+    reporting (went n) (record { text = times (delete way) n (s .text); recall = removed way n (s .text) })
+carried Delete way Nowhere s = reporting rang (record { text = s .text; recall = empty })
 
 unfoldable pub function : Action → Direction → Place → Side → Did Side
 function action way place s = carried action way (distance way (isAt place way) (s .text)) s
 
 -- The recall pair goes in around the cursor, and stays for the next time. (01, plain editor: RECALL.)
 unfoldable pub recalled : Side → Did Side
-recalled s = quiet (record { text = splice 0 0 (s .recall) (s .text); recall = s .recall })
+recalled s = reporting quiet (record { text = splice 0 0 (s .recall) (s .text); recall = s .recall })
 
 -- The mode says which side these keys act on. (01, plain editor: QUOTED.)
 abbrev pub sideOf : Mode → Plain → Side
@@ -76,7 +77,7 @@ otherMode Quoted = Main
 
 unfoldable pub quoted : Plain → Did Plain
 quoted p =
-    quiet
+    reporting quiet
     (record {
       main = p .main;
       quoted = emptySide;
@@ -132,7 +133,7 @@ exchanged p =
     }
 
 unfoldable pub substituted : Plain → Did Plain
-substituted p = cond (matches (p .pattern) (p .main .text)) (quiet (withSide Main (exchanged p) p)) (rang p)
+substituted p = cond (matches (p .pattern) (p .main .text)) (reporting quiet (withSide Main (exchanged p) p)) (reporting rang p)
 
 unfoldable pub replaced : Plain → Did Plain
 replaced p = substituted (withReplacement (p .mode) p)
@@ -153,12 +154,16 @@ pressed Replace p = replaced p
 unfoldable pub fits : ℕ → ℕ → Plain → Bool
 fits T Q p = leb (length (content (p .main .text))) T && leb (length (content (p .quoted .text))) Q
 
-unfoldable pub bounded : ℕ → ℕ → Did Plain → Outcome
-bounded T Q did = cond (fits T Q (did .state)) (done did) (refused FULL)
+-- What the finished texts are asked, in order.
+abbrev pub finishedChecks : ℕ → ℕ → Plain → List Check
+finishedChecks T Q p = check FULL (fits T Q p) ∷ []
 
--- KEY before FULL. (01, refusals: order.)
+unfoldable pub bounded : ℕ → ℕ → Did Plain → Outcome
+bounded T Q did = unless (finishedChecks T Q (did .state)) refused (done did)
+
+-- KEY before anything of the key itself. (01, refusals: order.)
 unfoldable pub key : ℕ → ℕ → Key → Plain → Outcome
-key T Q k p = cond (soundKey k) (bounded T Q (pressed k p)) (refused KEY)
+key T Q k p = unless (check KEY (soundKey k) ∷ []) refused (bounded T Q (pressed k p))
 
 -- A list of keys; a refused one leaves the state as it was.
 abbrev pub after : Plain → Outcome → Plain

@@ -1,5 +1,5 @@
--- The editor's state without bytes, what a key reports, and the numbers of refusals.
-use Rattle.editor.specs.Words.{List, [], Bool, true, false, ℕ, Mode, Main}
+-- The editor's state without bytes, and what a key reports.
+use Rattle.editor.specs.Words.{List, [], true, false, ℕ, Mode, Main, Report}
 use Rattle.gap.specs.Doc.{Doc, empty}
 
 -- A text and what its last deletion took: the document has such a side, and so has the quotation.
@@ -29,44 +29,27 @@ opening text =
       mode = Main;
     }
 
--- What a key did: the state behind it, its steps and its bell.
+-- The three ways to report: nothing to say, nothing found, or n steps gone. (01, plain editor: steps, bell.)
+abbrev pub quiet : Report
+quiet = record { steps = 0; bell = false }
+
+abbrev pub rang : Report
+rang = record { steps = 0; bell = true }
+
+abbrev pub went : ℕ → Report
+went n = record { steps = n; bell = false }
+
+-- What a key did: the state behind it and its report.
 pub record Did (A : Type 0) : Type 0 where
   pub state : A
-  pub steps : ℕ
-  pub bell : Bool
+  pub report : Report
 
--- The three ways to report: nothing to say, nothing found, or n steps gone. (01, plain editor: steps, bell.)
-abbrev pub quiet : {A : Type 0} → A → Did A
-quiet a = record { state = a; steps = 0; bell = false }
-
-abbrev pub rang : {A : Type 0} → A → Did A
-rang a = record { state = a; steps = 0; bell = true }
-
-abbrev pub went : {A : Type 0} → ℕ → A → Did A
-went n a = record { state = a; steps = n; bell = false }
+abbrev pub reporting : {A : Type 0} → Report → A → Did A
+reporting report a = record { state = a; report = report }
 
 -- The same report about the larger state that a part was put into.
 abbrev pub within : {A B : Type 0} → (A → B) → Did A → Did B
-within put did = record { state = put (did .state); steps = did .steps; bell = did .bell }
-
--- 01, refusal numbers.
-abbrev pub SIZE : ℕ
-SIZE = 1
-
-abbrev pub LONG : ℕ
-LONG = 2
-
-abbrev pub TEXT : ℕ
-TEXT = 3
-
-abbrev pub SESSION : ℕ
-SESSION = 4
-
-abbrev pub KEY : ℕ
-KEY = 5
-
-abbrev pub FULL : ℕ
-FULL = 6
+within put did = record { state = put (did .state); report = did .report }
 
 -- A key is refused with a number, or it is done.
 pub data Outcome : Type 0 where

@@ -15,7 +15,7 @@ use Rattle.gap.proofs.Laws.Sequence.{every-left}
 use Rattle.gap.proofs.Laws.Layout.{Holdable}
 use Rattle.editor.specs.Words.{Direction, Action, Move, Place, Mode, Main, Quoted}
 use Rattle.editor.specs.Places.{isAt}
-use Rattle.editor.specs.Plain.{Side, emptySide, Plain, Did, quiet, rang}
+use Rattle.editor.specs.Plain.{Side, emptySide, Plain, quiet, rang, Did, reporting}
 use Rattle.editor.specs.Bytes.{alone, sizesOf, unquoted}
 use Rattle.editor.specs.Keys.{function, sideOf, withSide, onSide, otherMode, quoted, withPattern, matches, searched, found}
 use Rattle.editor.specs.Keys.{withReplacement, exchanged, substituted, fits}
@@ -181,7 +181,7 @@ unfolding substituted
 substituted-sound T Q p sound room = go (matches (p .pattern) (p .main .text)) refl room
   where
     answer : Bool → Did Plain
-    answer match = cond match (quiet (withSide Main (exchanged p) p)) (rang p)
+    answer match = cond match (reporting quiet (withSide Main (exchanged p) p)) (reporting rang p)
 
     go : (match : Bool) → matches (p .pattern) (p .main .text) ≡ match → fits T Q (answer match .state) ≡ true
         → SoundPlain T Q (answer match .state)

@@ -15,7 +15,8 @@ use Rattle.gap.proofs.Laws.Tests.{clash}
 use Rattle.editor.specs.Words.{Direction, Left, Right, Action, Move, Delete, Mode, Main, Quoted}
 use Rattle.editor.specs.Words.{Place, Character, Word, LineBeginning, LineEnding, Document}
 use Rattle.editor.specs.Words.{Key, Insert, Function, Recall, Quote, Find, Replace}
-use Rattle.editor.specs.Plain.{Side, Plain, Did, KEY, FULL, refused, done}
+use Rattle.editor.specs.Refusals.{KEY, FULL}
+use Rattle.editor.specs.Plain.{Side, Plain, Did, refused, done}
 use Rattle.editor.specs.Keys.{soundFunction, soundKey, inserted, recalled, sideOf, withSide, onSide}
 use Rattle.editor.specs.Keys.{matches, withReplacement, exchanged, substituted, replaced, pressed, fits, key}
 use Rattle.editor.proofs.Laws.Sound.{SoundPlain}

@@ -9,14 +9,14 @@ use Rattle.editor.proofs.keys.press_session.Tie as tie
 sound-key-requires : tie.Need-sound-key-requires
 sound-key-requires c κs = search needs
 
-refuse-requires : tie.Need-refuse-requires
-refuse-requires c κs = search needs
+unedited-requires : tie.Need-unedited-requires
+unedited-requires c κs = search needs
 
 returns : tie.Need-returns
 unfolding key
 returns c =
-    let tested = c .before in
-    rw (c .refuse .ensures, sym (tested .before .sound-key .ensures) ∙ not-true _ (tested .if1 .taken))
+    let tested : tie.Then1 = search in let asked : tie.After-sound-key = search in
+    rw (c .unedited .ensures, sym (asked .sound-key .ensures) ∙ not-true _ (tested .if1 .taken))
 
 press-sound-requires : tie.Need-press-sound-requires
 press-sound-requires c κs = search needs
@@ -33,19 +33,8 @@ same-length-3 c = search needs
 returns-2 : tie.Need-returns-2
 unfolding key
 returns-2 c =
-    let after = c .before .before .before .before .before .before in
-    let tested = after .before .before .before .before in
-    rw (sym (tested .before .sound-key .ensures) ∙ not-false _ (tested .if1 .left)) (after .press-sound .ensures)
+    let done : tie.After-press-sound = search in let tested : tie.Else1 = search in let asked : tie.After-sound-key = search in
+    rw (sym (asked .sound-key .ensures) ∙ not-false _ (tested .if1 .left)) (done .press-sound .ensures)
 
 pub press-session-spec : {M : Type 1} → statement M
-press-session-spec =
-    tie.close
-    (tie.spec
-    sound-key-requires
-    refuse-requires
-    returns
-    press-sound-requires
-    same-length
-    same-length-2
-    same-length-3
-    returns-2)
+press-session-spec = tie.close (tie.spec sound-key-requires unedited-requires returns press-sound-requires same-length same-length-2 same-length-3 returns-2)
