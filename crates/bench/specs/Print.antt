@@ -5,8 +5,7 @@ use Rattle.bench.specs.Words.{List, [], _∷_, _++_, cond, ℕ, zero, su
 use Rattle.gap.specs.Strings.{bytes}
 use Rattle.gap.specs.Lines.{newline}
 use Rattle.gap.specs.Decimal.{decimal}
-use Rattle.window.specs.declared.Answer.{Answer as windowAnswer}
-use Rattle.window.specs.Core.{Answer}
+use Rattle.window.specs.declared.Answer.{Answer}
 use Rattle.window.specs.Host.{bit}
 
 -- A word, a number, a newline.
@@ -21,8 +20,8 @@ rowsOf (suc h) W screen = bytes "line=" ++ (take W screen ++ (newline ∷ rowsOf
 unfoldable pub acceptedBlock : ℕ → ℕ → Answer → List ℕ → List ℕ
 acceptedBlock H W a screen =
     entry (bytes "code=") 0
-    ++ (entry (bytes "steps=") (a .steps)
-    ++ (entry (bytes "bell=") (bit (a .bell))
+    ++ (entry (bytes "steps=") (a .report .steps)
+    ++ (entry (bytes "bell=") (bit (a .report .bell))
     ++ (entry (bytes "first=") (a .first)
     ++ (entry (bytes "last=") (a .last)
     ++ (entry (bytes "row=") (a .row) ++ (entry (bytes "col=") (a .column) ++ rowsOf H W screen))))))
@@ -36,20 +35,6 @@ block H W a screen = cond (eqb (a .code) 0) (acceptedBlock H W a screen) (refuse
 
 unfoldable pub scriptLine : ℕ → List ℕ
 scriptLine n = entry (bytes "script=") n
-
--- What the code hands over as an answer, as the definitions speak of it.
-abbrev pub answerOf : windowAnswer → Answer
-answerOf a =
-    record {
-      code = a .code;
-      place = a .place;
-      steps = a .steps;
-      bell = a .bell;
-      first = a .first;
-      last = a .last;
-      row = a .row;
-      column = a .column;
-    }
 
 -- A screen that can be printed: as many rows and columns as tabled.
 pub record Printable (h w : ℕ) (screen : List ℕ) : Type 0 where

@@ -1,18 +1,19 @@
 -- How the promises of this layer's functions speak: spots, texts as they are lent, and the outcome of a call as one value.
 use mathlib.Core.Path.{_≡_}
 use Prim.Native.Nat.{_≤_}
-use Rattle.window.specs.Words.{List, Bool, _&&_, ℕ, _+_, _*_, leb, ltb, length, Main, Lengths, Frame}
+use Rattle.window.specs.Words.{List, Bool, _&&_, ℕ, _+_, _*_, true, leb, ltb, length, Lengths, Frame, Session}
 use Rattle.gap.specs.Doc.{Doc}
 use Rattle.gap.specs.Layout.{ungap}
-use Rattle.editor.specs.declared.Reply.{Reply as editorReply}
+use Rattle.editor.specs.declared.EditorReply.{EditorReply}
 use Rattle.editor.specs.Plain.{Plain, Did}
 use Rattle.editor.specs.Bytes.{Stores, quarter, quarterOf, plainOf}
+use Rattle.editor.specs.Promise.{Sound, stores}
 use Rattle.window.specs.declared.Spot.{Spot}
 use Rattle.window.specs.declared.Rows.{Rows}
 use Rattle.window.specs.declared.Reply.{Reply}
 use Rattle.window.specs.Window.{virtualIn, rowOf, columnOf, window, policyRow, policyColumn}
 use Rattle.window.specs.Rows.{firstRow, lastRow}
-use Rattle.window.specs.Core.{Lent, Called, zeroSizes}
+use Rattle.window.specs.Core.{Lent, Called, tabled, refusal, zeroRecord, shown}
 
 -- ---- Cursor
 
@@ -54,28 +55,21 @@ abbrev pub lent : List ℕ → List ℕ → List ℕ → List ℕ → Lent
 lent text recall side screen = record { stores = record { text = text; recall = recall; side = side }; screen = screen }
 
 abbrev pub called : Reply → Lent → Called
-called r b =
-    record {
-      answer =
-          record {
-            code = r .answer .code;
-            place = r .answer .place;
-            steps = r .answer .steps;
-            bell = r .answer .bell;
-            first = r .answer .first;
-            last = r .answer .last;
-            row = r .answer .row;
-            column = r .answer .column;
-          };
-      session = r .session;
-      lent = b;
-    }
+called r b = record { answer = r .answer; session = r .session; lent = b }
 
--- The lengths of a newly opened text of n bytes.
-abbrev pub openingLengths : ℕ → Lengths
-openingLengths n =
-    record { main = record { l = 0; r = n; rl = 0; rr = 0 }; quoted = zeroSizes; xl = 0; xr = 0; pl = 0; mode = Main }
+-- The replies of a refused opening and of a refused key.
+abbrev pub unopenedReply : ℕ → ℕ → Reply
+unopenedReply code place = record { answer = refusal code place; session = zeroRecord }
+
+abbrev pub turnedDownReply : ℕ → Session → Reply
+turnedDownReply code s = record { answer = refusal code 0; session = s }
 
 -- What the editor's key call reports, about the plain state that record and stores then hold.
-abbrev pub reported : editorReply → Stores → Did Plain
-reported r b = record { state = plainOf quarter (r .lengths) b; steps = r .steps; bell = r .bell }
+abbrev pub reported : EditorReply → Stores → Did Plain
+reported r b = record { state = plainOf quarter (r .lengths) b; report = r .report }
+
+-- An accepted key is shown without a look at the recall store, whatever it holds.
+abbrev pub Shows : Reply → Frame → EditorReply → (text side screen screenThen : List ℕ) → Type 0
+Shows r f done text side screen screenThen =
+    (recall : List ℕ) → Sound quarter (done .lengths) (stores text recall side) → tabled (f .h) (f .w) (lent text recall side screen) ≡ true
+    → called r (lent text recall side screenThen) ≡ shown f (lent text recall side screen) (reported done (stores text recall side))

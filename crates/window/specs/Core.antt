@@ -1,12 +1,14 @@
 -- The core: opening and the key call as total functions on any record and any four stores.
-use Rattle.window.specs.Words.{List, Bool, false, not, _&&_, cond, ℕ, _-_, _*_, eqb, leb, length, take, getD}
-use Rattle.window.specs.Words.{Main, Key, Search, Reached, Nowhere, Sizes, Frame, Session}
+use Rattle.window.specs.Words.{List, [], _∷_, Bool, not, _&&_, ℕ, _-_, _*_, eqb, leb, length, take, getD}
+use Rattle.window.specs.Words.{Key, Search, Reached, Nowhere, Report, Frame, Session, Answer}
 use Rattle.gap.specs.Doc.{Doc}
 use Rattle.gap.specs.Nearest.{nearest}
 use Rattle.gap.specs.Layout.{allowed}
-use Rattle.editor.specs.Plain.{Plain, opening, Did, SIZE, LONG, TEXT, SESSION, Outcome, refused, done}
+use Rattle.editor.specs.Refusals.{SIZE, LONG, TEXT, SESSION, check, unless}
+use Rattle.editor.specs.Plain.{Plain, opening, quiet, Did, Outcome, refused, done}
 use Rattle.editor.specs.Keys.{key}
 use Rattle.editor.specs.Bytes.{Stores, quarter, sized, plainOf, lengthsOf, storesOf, editorOk}
+use Rattle.editor.specs.Promise.{openingLengths}
 use Rattle.window.specs.Window.{virtual, rowOf, columnOf, window, visible, policy}
 use Rattle.window.specs.Rows.{firstRow, lastRow}
 
@@ -16,17 +18,6 @@ use Rattle.window.specs.Rows.{firstRow, lastRow}
 pub record Lent : Type 0 where
   pub stores : Stores
   pub screen : List ℕ
-
--- The answer: 0 or a refusal's number, place, steps, bell, named rows and cursor.
-pub record Answer : Type 0 where
-  pub code : ℕ
-  pub place : ℕ
-  pub steps : ℕ
-  pub bell : Bool
-  pub first : ℕ
-  pub last : ℕ
-  pub row : ℕ
-  pub column : ℕ
 
 -- All that a call determines: the answer, the record handed back, and the bytes of the four stores.
 pub record Called : Type 0 where
@@ -60,16 +51,15 @@ isSession s b = editorOk quarter (s .lengths) b && visible (s .frame) (virtual (
 -- A refusal says its number and, for TEXT, the place; everything else is 0. (01, refusals: what a refusal leaves.)
 abbrev pub refusal : ℕ → ℕ → Answer
 refusal code place =
-    record { code = code; place = place; steps = 0; bell = false; first = 0; last = 0; row = 0; column = 0 }
+    record { code = code; place = place; report = quiet; first = 0; last = 0; row = 0; column = 0 }
 
--- An accepted call says steps, bell, named rows, and where on the screen the cursor is. (01, the window: cursor.)
-abbrev pub accepted : ℕ → Bool → ℕ → ℕ → Frame → Doc → Answer
-accepted steps bell first last f d =
+-- An accepted call says its report, the named rows, and where on the screen the cursor is. (01, the window: cursor.)
+abbrev pub accepted : Report → ℕ → ℕ → Frame → Doc → Answer
+accepted report first last f d =
     record {
       code = 0;
       place = 0;
-      steps = steps;
-      bell = bell;
+      report = report;
       first = first;
       last = last;
       row = rowOf d - f .r;
@@ -86,15 +76,8 @@ lentOf T p f = record { stores = storesOf T quarter p; screen = window f (virtua
 -- ---- Opening
 
 -- Refused, it gives a record of zeros, and the stores as they were. (01, refusals: refused opening. DECISIONS B25.)
-abbrev pub zeroSizes : Sizes
-zeroSizes = record { l = 0; r = 0; rl = 0; rr = 0 }
-
 abbrev pub zeroRecord : Session
-zeroRecord =
-    record {
-      lengths = record { main = zeroSizes; quoted = zeroSizes; xl = 0; xr = 0; pl = 0; mode = Main };
-      frame = record { r = 0; c = 0; h = 0; w = 0 };
-    }
+zeroRecord = record { lengths = openingLengths 0; frame = record { r = 0; c = 0; h = 0; w = 0 } }
 
 abbrev pub unopened : Lent → ℕ → ℕ → Called
 unopened b code place = record { answer = refusal code place; session = zeroRecord; lent = b }
@@ -108,7 +91,7 @@ unfoldable pub openedText : ℕ → ℕ → ℕ → Lent → Called
 openedText n H W b =
     let p = opening (take n (b .stores .text)) in
     record {
-      answer = accepted 0 false 1 H (start H W) (virtual p);
+      answer = accepted quiet 1 H (start H W) (virtual p);
       session = sessionOf p (start H W);
       lent = lentOf (T (b .stores)) p (start H W);
     }
@@ -124,9 +107,8 @@ unlessBad Nowhere b o = o
 -- SIZE, then LONG, then TEXT; n is the stated length of the text. (01, refusals: order.)
 unfoldable pub opened : ℕ → ℕ → ℕ → Lent → Called
 opened n H W b =
-    cond (tabled H W b)
-    (cond (leb n (T (b .stores))) (unlessBad (badByte n (b .stores .text)) b (openedText n H W b)) (unopened b LONG 0))
-    (unopened b SIZE 0)
+    unless (check SIZE (tabled H W b) ∷ check LONG (leb n (T (b .stores))) ∷ []) (λ code. unopened b code 0)
+    (unlessBad (badByte n (b .stores .text)) b (openedText n H W b))
 
 -- ---- A key
 
@@ -144,7 +126,7 @@ shown f b did =
     let first = firstRow (g .h) (g .w) (b .screen) screen in
     let last = lastRow (g .h) (g .w) (b .screen) screen in
     record {
-      answer = accepted (did .steps) (did .bell) first last g d;
+      answer = accepted (did .report) first last g d;
       session = sessionOf (did .state) g;
       lent = lentOf (T (b .stores)) (did .state) g;
     }
@@ -156,6 +138,5 @@ finished s b (done did) = shown (s .frame) b did
 -- SIZE, then SESSION, then what the plain editor says: KEY, FULL or done. (01, refusals: order.)
 unfoldable pub keyed : Session → Key → Lent → Called
 keyed s k b =
-    cond (tabled (s .frame .h) (s .frame .w) b)
-    (cond (isSession s (b .stores)) (finished s b (key (T (b .stores)) quarter k (held s (b .stores)))) (turnedDown s b SESSION))
-    (turnedDown s b SIZE)
+    unless (check SIZE (tabled (s .frame .h) (s .frame .w) b) ∷ check SESSION (isSession s (b .stores)) ∷ []) (turnedDown s b)
+    (finished s b (key (T (b .stores)) quarter k (held s (b .stores))))

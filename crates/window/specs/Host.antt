@@ -1,13 +1,13 @@
 -- The host's boundary: record, key and answer as numbers. (DECISIONS D1 to D4.)
 use Rattle.window.specs.Words.{Bool, true, false, _&&_, cond, ℕ, eqb, leb, Left, Right, Direction, Action, Move, Delete}
-use Rattle.window.specs.Words.{Mode, Main, Quoted, Place, Character, Word, LineBeginning, LineEnding, Document, Session}
+use Rattle.window.specs.Words.{Mode, Main, Quoted, Place, Character, Word, LineBeginning, LineEnding, Document, Session, Answer}
 use Rattle.window.specs.Words.{Key, Insert, Function, Recall, Quote, Find, Replace}
-use Rattle.editor.specs.Plain.{SIZE, SESSION}
+use Rattle.editor.specs.Refusals.{SIZE, SESSION}
 use Rattle.window.specs.declared.Reply.{Reply}
 use Rattle.window.specs.declared.host.Record.{Record}
 use Rattle.window.specs.declared.host.Said.{Said}
 use Rattle.window.specs.declared.host.HostReply.{HostReply}
-use Rattle.window.specs.Core.{Lent, Answer, Called, refusal, tabled, opened, keyed}
+use Rattle.window.specs.Core.{Lent, Called, refusal, tabled, opened, keyed}
 
 -- A mode is 0 or 1.
 abbrev pub modeOf : ℕ → Mode
@@ -97,8 +97,8 @@ saidOf a =
     record {
       code = a .code;
       place = a .place;
-      steps = a .steps;
-      bell = bit (a .bell);
+      steps = a .report .steps;
+      bell = bit (a .report .bell);
       first = a .first;
       last = a .last;
       row = a .row;
@@ -116,21 +116,7 @@ given r b = record { said = r .said; back = r .back; lent = b }
 
 -- A reply of the core in numbers.
 abbrev pub numbersOf : Reply → HostReply
-numbersOf r =
-    record {
-      said =
-          record {
-            code = r .answer .code;
-            place = r .answer .place;
-            steps = r .answer .steps;
-            bell = bit (r .answer .bell);
-            first = r .answer .first;
-            last = r .answer .last;
-            row = r .answer .row;
-            column = r .answer .column;
-          };
-      back = recordFrom (r .session);
-    }
+numbersOf r = record { said = saidOf (r .answer); back = recordFrom (r .session) }
 
 abbrev pub givenOf : Called → Given
 givenOf o = record { said = saidOf (o .answer); back = recordFrom (o .session); lent = o .lent }

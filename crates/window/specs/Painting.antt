@@ -3,13 +3,9 @@ use Rattle.window.specs.Words.{List, Bool, not, _&&_, _||_, cond, ℕ, _
 use Rattle.gap.specs.Sequence.{patch}
 use Rattle.gap.specs.Nearest.{nearest}
 use Rattle.gap.specs.Layout.{printable}
-use Rattle.editor.specs.Plain.{SIZE, TEXT}
+use Rattle.editor.specs.Refusals.{SIZE, TEXT, ROOM}
 use Rattle.window.specs.Core.{rowsAndColumns}
 use Rattle.window.specs.Sequences.{painted}
-
--- The seventh refusal. (M-100: 7 ROOM.)
-abbrev pub ROOM : ℕ
-ROOM = 7
 
 -- What the routine determines: 0 or a refusal's number, the place of TEXT, how many bytes it wrote, and the buffer.
 pub record PaintOutcome : Type 0 where

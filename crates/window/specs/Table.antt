@@ -73,8 +73,8 @@ sameDoc d e = sameBytes (d .l) (e .l) && sameBytes (d .r) (e .r)
 
 unfoldable pub holds : Called → Fact → Bool
 holds o (Code n) = eqb (o .answer .code) n
-holds o (Steps n) = eqb (o .answer .steps) n
-holds o (Bell b) = sameBool (o .answer .bell) b
+holds o (Steps n) = eqb (o .answer .report .steps) n
+holds o (Bell b) = sameBool (o .answer .report .bell) b
 holds o (Text s) = sameDoc (held (o .session) (o .lent .stores) .main .text) (marked s)
 holds o (Offset c) = eqb (o .session .frame .c) c
 holds o (Cursor row column) = eqb (o .answer .row) row && eqb (o .answer .column) column

@@ -14,6 +14,8 @@ use editor::Lengths;
 use editor::Mode;
 use editor::Place;
 use editor::Sizes;
+use editor::refusals::SESSION;
+use editor::refusals::SIZE;
 use gap::Direction;
 ghost use mathlib.Core.Path.{_≡_};
 ghost use Rattle.window.specs.Calls.{lent};
@@ -255,12 +257,13 @@ fn in_numbers(r: Reply) -> HostReply
 {
     let answer = r.answer;
     let session = r.session;
+    let report = answer.report;
     HostReply {
         said: Said {
             code: answer.code,
             place: answer.place,
-            steps: answer.steps,
-            bell: bit_of(answer.bell),
+            steps: report.steps,
+            bell: bit_of(report.bell),
             first: answer.first,
             last: answer.last,
             row: answer.row,
@@ -329,9 +332,9 @@ pub extern "C" fn chidukwore_key(
     let columns = n.columns;
     if 1 < mode {
         if tabled_stores(rows, columns, text, recall, side, screen) {
-            return refusal_of(4, n);
+            return refusal_of(SESSION, n);
         }
-        return refusal_of(1, n);
+        return refusal_of(SIZE, n);
     }
     in_numbers(press(
         session_from(n),

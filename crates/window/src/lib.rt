@@ -8,6 +8,7 @@ pub mod terminal;
 pub mod writer;
 
 use editor::Lengths;
+use editor::Report;
 
 // The window's offsets r and c, and the screen's H rows and W columns.
 pub struct Frame {
@@ -48,8 +49,7 @@ pub struct Rows {
 pub struct Answer {
     pub code: usize,
     pub place: usize,
-    pub steps: usize,
-    pub bell: bool,
+    pub report: Report,
     pub first: usize,
     pub last: usize,
     pub row: usize,

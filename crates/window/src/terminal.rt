@@ -4,6 +4,9 @@ use crate::calls::rows_and_columns;
 use crate::sequences::painted_size;
 use crate::sequences::sent_column;
 use crate::writer::write_screen;
+use editor::refusals::ROOM;
+use editor::refusals::SIZE;
+use editor::refusals::TEXT;
 use gap::Search;
 use gap::sound::bad_cell;
 ghost use mathlib.Core.Path.{_≡_};
@@ -69,7 +72,7 @@ fn paint_counted(
 {
     let size = painted_size(w, first, last, row, column);
     if out.len() < size {
-        return unpainted(7, 0);
+        return unpainted(ROOM, 0);
     }
     let count = write_screen(w, first, last, row, sent_column(w, column), screen, out);
     Painting {
@@ -93,10 +96,10 @@ pub fn paint(
     ensures { λ a. ⌜ outcomeOf a (now (out .exit)) ≡ painting h w first last row column (now (screen .entry)) (now (out .entry)) ⌝ }
 {
     if !is_paintable(h, w, first, last, row, column, screen) {
-        return unpainted(1, 0);
+        return unpainted(SIZE, 0);
     }
     let Search::Reached(i) = bad_cell(screen) else {
         return paint_counted(w, first, last, row, column, screen, out);
     };
-    unpainted(3, i)
+    unpainted(TEXT, i)
 }

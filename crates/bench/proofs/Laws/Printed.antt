@@ -16,7 +16,7 @@ use Rattle.gap.proofs.Laws.Sequence.{length-part}
 use Rattle.gap.proofs.Laws.Runs.{part-lent}
 use Rattle.gap.proofs.Laws.Writers.{wrote-none, then, wrote-length}
 use Rattle.window.proofs.Laws.Paint.{row-fits}
-use Rattle.window.specs.Core.{Answer}
+use Rattle.window.specs.declared.Answer.{Answer}
 use Rattle.window.specs.Host.{bit}
 use Rattle.bench.specs.Print.{entry, rowsOf, acceptedBlock, Printable}
 
@@ -104,9 +104,9 @@ shown-all {h} {w} {at} {i} {from} {next} {screen} {old} {new} shown done = let a
 
 -- The block of an accepted call: its first entry, the others two by two, and the rows behind them.
 pub accepted-wrote : (h w : ℕ) (a : Answer) (screen : List ℕ) {bell steps-at first-at row-at lines-at next : ℕ} {old s t u v new : List ℕ}
-    → bell ≡ bit (a .bell)
+    → bell ≡ bit (a .report .bell)
     → Wrote 0 (entry (bytes "code=") 0) old steps-at s
-    → Wrote steps-at (entry (bytes "steps=") (a .steps) ++ entry (bytes "bell=") bell) s first-at t
+    → Wrote steps-at (entry (bytes "steps=") (a .report .steps) ++ entry (bytes "bell=") bell) s first-at t
     → Wrote first-at (entry (bytes "first=") (a .first) ++ entry (bytes "last=") (a .last)) t row-at u
     → Wrote row-at (entry (bytes "row=") (a .row) ++ entry (bytes "col=") (a .column)) u lines-at v
     → Wrote lines-at (rowsOf h w screen) v next new

@@ -2,7 +2,7 @@
 use mathlib.Core.Path.{_≡_, ap, _∙_}
 use Prim.Native.Nat.{_≤_, _<_}
 use borrow.Author.Tests.{le-leb, lt-leb}
-use Rattle.editor.specs.Plain.{SIZE, SESSION}
+use Rattle.editor.specs.Refusals.{SIZE, SESSION}
 use Rattle.window.specs.Words.{Bool, cond, ℕ, Session, Key}
 use Rattle.window.specs.declared.Reply.{Reply}
 use Rattle.window.specs.declared.host.Record.{Record}

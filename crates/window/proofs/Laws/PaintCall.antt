@@ -13,11 +13,11 @@ use Rattle.gap.specs.declared.Search.the-variants.{Reached, Nowhere}
 use Rattle.gap.specs.Sequence.{patch}
 use Rattle.gap.specs.Written.{Wrote}
 use Rattle.gap.proofs.Laws.Tests.{cond-true, cond-false}
-use Rattle.editor.specs.Plain.{SIZE, TEXT}
+use Rattle.editor.specs.Refusals.{SIZE, TEXT, ROOM}
 use Rattle.window.specs.declared.Painting.{Painting}
 use Rattle.window.specs.Core.{rowsAndColumns}
 use Rattle.window.specs.Sequences.{placed, namedRows, sentRows, sentColumn, painted}
-use Rattle.window.specs.Painting.{PaintOutcome, ROOM, rowsOn, cursorOn, paintable, badCell, paintedInto, unlessBadCell, painting}
+use Rattle.window.specs.Painting.{PaintOutcome, rowsOn, cursorOn, paintable, badCell, paintedInto, unlessBadCell, painting}
 use Rattle.window.specs.Writing.{RowsIn, paintedSize, outcomeOf}
 use Rattle.window.proofs.Laws.Paintable.{Paintable, paintable-facts, sent-on}
 use Rattle.window.proofs.Laws.Sequences.{cursor-place-short, named-most, rows-most, painted-size}

@@ -9,7 +9,8 @@ use lib.ListN.{length, take}
 use borrow.Author.Tests.{le-leb}
 use Rattle.gap.proofs.Laws.Tests.{cond-true}
 use Rattle.editor.specs.declared.Key.{Key}
-use Rattle.editor.specs.Plain.{Plain, Outcome, refused, done, SIZE, opening}
+use Rattle.editor.specs.Refusals.{SIZE}
+use Rattle.editor.specs.Plain.{Plain, Outcome, refused, done, opening}
 use Rattle.editor.specs.Keys.{soundKey, pressed, fits, bounded, key, keys}
 use Rattle.editor.specs.Bytes.{quarter}
 use Rattle.window.specs.Words.{Session}

@@ -17,9 +17,9 @@ use Rattle.gap.specs.Layout.{printable}
 use Rattle.gap.specs.Written.{Wrote}
 use Rattle.gap.proofs.Laws.Nearest.{Least, reached-least}
 use Rattle.gap.proofs.Laws.Writers.{wrote-length, wrote-front, wrote-behind}
-use Rattle.editor.specs.Plain.{SIZE, TEXT}
+use Rattle.editor.specs.Refusals.{SIZE, TEXT, ROOM}
 use Rattle.window.specs.Sequences.{painted}
-use Rattle.window.specs.Painting.{PaintOutcome, ROOM, paintable, badCell, unpainted, unlessBadCell, painting}
+use Rattle.window.specs.Painting.{PaintOutcome, paintable, badCell, unpainted, unlessBadCell, painting}
 use Rattle.window.proofs.Laws.Order.{Check, check, firstFailed, Passing, exactly, accepted-exactly}
 use Rattle.window.proofs.Theorems.Refusals.{none, none-fails}
 

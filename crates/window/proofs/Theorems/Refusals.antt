@@ -18,7 +18,8 @@ use Rattle.gap.proofs.Laws.Tests.{decided, clash}
 use Rattle.gap.proofs.Laws.Sequence.{every-at, at-every}
 use Rattle.gap.proofs.Laws.Nearest.{Least, reached-least, nowhere-none}
 use Rattle.editor.specs.declared.Key.{Key}
-use Rattle.editor.specs.Plain.{Plain, Did, refused, done, SIZE, LONG, TEXT, SESSION, KEY, FULL}
+use Rattle.editor.specs.Refusals.{SIZE, LONG, TEXT, SESSION, KEY, FULL}
+use Rattle.editor.specs.Plain.{Plain, Did, refused, done}
 use Rattle.editor.specs.Keys.{soundKey, pressed, fits, bounded, key}
 use Rattle.editor.specs.Bytes.{quarter}
 use Rattle.window.specs.Words.{Session}

@@ -16,8 +16,8 @@ entry start = lent (start .args .text .now) (start .args .recall .now) (start .a
 tabled-stores-requires : tie.Need-tabled-stores-requires
 tabled-stores-requires c κs = search needs
 
-unopened-reply-requires : tie.Need-unopened-reply-requires
-unopened-reply-requires c κs = search needs
+unopened-requires : tie.Need-unopened-requires
+unopened-requires c κs = search needs
 
 same-length : tie.Need-same-length
 same-length c = search needs
@@ -34,10 +34,10 @@ same-length-4 c = search needs
 returns : tie.Need-returns
 returns c =
     let start : tie.Start = search in
-    size-refused _ _ _ (entry start) (c .before .before .tabled-stores .ensures) (c .before .if1 .taken) (c .unopened-reply .ensures)
+    size-refused _ _ _ (entry start) (c .before .before .tabled-stores .ensures) (c .before .if1 .taken) (c .unopened .ensures)
 
-unopened-reply-requires-2 : tie.Need-unopened-reply-requires-2
-unopened-reply-requires-2 c κs = search needs
+unopened-requires-2 : tie.Need-unopened-requires-2
+unopened-requires-2 c κs = search needs
 
 same-length-5 : tie.Need-same-length-5
 same-length-5 c = search needs
@@ -56,7 +56,7 @@ returns-2 c =
     let start : tie.Start = search in
     let long = c .before in
     long-refused _ _ _ (entry start) (long .before .before .tabled-stores .ensures) (long .before .if1 .left) (long .if2 .taken)
-    (c .unopened-reply2 .ensures)
+    (c .unopened2 .ensures)
 
 slice-reshare-prefix-bad-byte : tie.Need-slice-reshare-prefix-bad-byte
 slice-reshare-prefix-bad-byte c = search needs
@@ -100,8 +100,8 @@ returns-3 c =
     ∙ text-accepted _ _ _ (entry start) (fits .before .before .tabled-stores .ensures) (fits .before .if1 .left) (fits .if2 .left)
     (found .bad-byte .ensures) (after-enum-told .enum-told .given .1)
 
-unopened-reply-requires-3 : tie.Need-unopened-reply-requires-3
-unopened-reply-requires-3 c κs = search needs
+unopened-requires-3 : tie.Need-unopened-requires-3
+unopened-requires-3 c κs = search needs
 
 same-length-13 : tie.Need-same-length-13
 same-length-13 c = search needs
@@ -121,20 +121,20 @@ returns-4 c =
     let start = found .before .before .before .before .before .before .before .before .before .before .before .before .before in
     let fits = found .before .before in
     text-refused _ _ _ (entry start) (fits .before .before .tabled-stores .ensures) (fits .before .if1 .left) (fits .if2 .left)
-    (found .bad-byte .ensures) _ (c .before .before .i .given .1) (c .unopened-reply3 .ensures)
+    (found .bad-byte .ensures) _ (c .before .before .i .given .1) (c .unopened3 .ensures)
 
 pub open-spec : {M : Type 1} → statement M
 open-spec =
     tie.close
     (tie.spec
     tabled-stores-requires
-    unopened-reply-requires
+    unopened-requires
     same-length
     same-length-2
     same-length-3
     same-length-4
     returns
-    unopened-reply-requires-2
+    unopened-requires-2
     same-length-5
     same-length-6
     same-length-7
@@ -151,7 +151,7 @@ open-spec =
     same-length-11
     same-length-12
     returns-3
-    unopened-reply-requires-3
+    unopened-requires-3
     same-length-13
     same-length-14
     same-length-15

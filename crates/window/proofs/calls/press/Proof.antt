@@ -7,7 +7,7 @@ use Rattle.editor.specs.Bytes.{quarter}
 use Rattle.editor.specs.Promise.{Sound, stores}
 use Rattle.window.specs.Core.{Lent, tabled, isSession}
 use Rattle.window.specs.Calls.{lent}
-use Rattle.window.proofs.Laws.KeyCall.{refused-size, refused-session, Accepted, press-refused, press-done, session-sound}
+use Rattle.window.proofs.Laws.KeyCall.{texts-held, refused-size, refused-session, Accepted, press-refused, press-done, session-sound}
 use Rattle.window.proofs.Laws.Views.{tabled-facts}
 use Rattle.window.proofs.calls.press.Statement.{statement}
 use Rattle.window.proofs.calls.press.Tie as tie
@@ -114,7 +114,11 @@ accepted c =
     press-done (s .args .s) (s .args .k) (entry s) (fit else1) (ok tested) _ _ (done .press-session .ensures) (c .if3 .left)
 
 show-requires : tie.Need-show-requires
-show-requires c κs = let known = accepted (c .before .before .before .before) in (known .sound, known .fit)
+show-requires c κs =
+    let tested : tie.Else3 = search in
+    let known = accepted tested in
+    let facts = tabled-facts _ _ _ (known .fit) in
+    (texts-held _ _ _ _ (known .sound), (facts .frame, facts .long))
 
 same-length-13 : tie.Need-same-length-13
 same-length-13 c = search needs
@@ -130,8 +134,9 @@ same-length-16 c = search needs
 
 returns-4 : tie.Need-returns-4
 returns-4 c =
-    let else3 : tie.Else3 = search in
-    c .before .before .show .ensures ∙ accepted else3 .shows
+    let shown : tie.After-show = search in let tested : tie.Else3 = search in
+    let known = accepted tested in
+    shown .show .ensures _ (known .sound) (known .fit) ∙ known .shows
 
 pub press-spec : {M : Type 1} → statement M
 press-spec =
