@@ -4,11 +4,17 @@ use Prim.Native.Nat.{_≤_, _<_}
 use lib.ListN.{getD}
 use Rattle.editor.specs.Words.{List, Bool, _&&_, ℕ, _+_, _-_, eqb, length, drop, Direction, Left, Right}
 use Rattle.gap.specs.Sequence.{begins}
+use Rattle.gap.specs.Doc.{Doc}
 
 -- The lowest of the places that are d to e bytes away from the cursor, in the text of n bytes that ends or begins there.
 abbrev pub lowest : Direction → ℕ → ℕ → ℕ → ℕ
 lowest Left n d e = n - e
 lowest Right n d e = d
+
+-- The document whose cursor stands where that text ends or begins.
+abbrev pub facing : Direction → List ℕ → List ℕ → Doc
+facing Left text other = record { l = text; r = other }
+facing Right text other = record { l = other; r = text }
 
 -- In that text, a match begins d bytes away.
 abbrev pub matchAway : Direction → List ℕ → List ℕ → ℕ → Bool

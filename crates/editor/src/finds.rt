@@ -120,7 +120,7 @@ fn none_likely(t: &[u8], at: usize, pattern: &[u8], k: usize) -> bool
 }
 
 // The lowest of the places that are d to e bytes away, so that either direction reads a block from its front.
-fn lowest_place(way: Direction, n: usize, d: usize, e: usize) -> usize
+pub fn lowest_place(way: Direction, n: usize, d: usize, e: usize) -> usize
     requires { ⌜ e ≤ n ⌝ }
     ensures { λ at. ⌜ at ≡ lowest way n d e ⌝ }
 {

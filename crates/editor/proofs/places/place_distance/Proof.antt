@@ -9,11 +9,11 @@ use Rattle.editor.proofs.places.place_distance.Tie as tie
 enum-told : tie.Need-enum-told
 enum-told c = search needs
 
-slice-aggregate-distance-left : tie.Need-slice-aggregate-distance-left
-slice-aggregate-distance-left c = simp length-take (omega arith)
+slice-aggregate-text-distance : tie.Need-slice-aggregate-text-distance
+slice-aggregate-text-distance c = simp length-take (omega arith)
 
-distance-left-requires : tie.Need-distance-left-requires
-distance-left-requires c κs = search needs
+text-distance-requires : tie.Need-text-distance-requires
+text-distance-requires c κs = search needs
 
 enum-told-2 : tie.Need-enum-told-2
 enum-told-2 c = search needs
@@ -21,36 +21,36 @@ enum-told-2 c = search needs
 sub-back : tie.Need-sub-back
 sub-back c = search needs
 
-sub-distance-right : tie.Need-sub-distance-right
-sub-distance-right c = search needs
+sub-text-distance : tie.Need-sub-text-distance
+sub-text-distance c = search needs
 
-part-distance-right-start : tie.Need-part-distance-right-start
-part-distance-right-start c = search needs
+part-text-distance-start : tie.Need-part-text-distance-start
+part-text-distance-start c = search needs
 
-part-distance-right-end : tie.Need-part-distance-right-end
-part-distance-right-end c = search needs
+part-text-distance-end : tie.Need-part-text-distance-end
+part-text-distance-end c = search needs
 
-distance-right-requires : tie.Need-distance-right-requires
-distance-right-requires c κs = search needs
+text-distance-requires-2 : tie.Need-text-distance-requires-2
+text-distance-requires-2 c κs = search needs
 
 returns : tie.Need-returns
-returns c = gap-left _ _ _ _ (c .before .before .enum-told .given .1) (c .distance-left .ensures)
+returns c = gap-left _ _ _ _ (c .before .before .enum-told .given .1) (c .text-distance .ensures)
 
 returns-2 : tie.Need-returns-2
-returns-2 c = gap-right _ _ _ _ (c .before .before .enum-told2 .given .1) (c .distance-right .ensures)
+returns-2 c = gap-right _ _ _ _ (c .before .before .enum-told2 .given .1) (c .text-distance2 .ensures)
 
 pub place-distance-spec : {M : Type 1} → statement M
 place-distance-spec =
     tie.close
     (tie.spec
     enum-told
-    slice-aggregate-distance-left
-    distance-left-requires
+    slice-aggregate-text-distance
+    text-distance-requires
     enum-told-2
     sub-back
-    sub-distance-right
-    part-distance-right-start
-    part-distance-right-end
-    distance-right-requires
+    sub-text-distance
+    part-text-distance-start
+    part-text-distance-end
+    text-distance-requires-2
     returns
     returns-2)
