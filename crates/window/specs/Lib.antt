@@ -8,9 +8,9 @@ pub mod Calls
 pub mod Host
 pub mod Terminal
 pub mod Sequences
-pub mod Painting
+pub mod Sending
 pub mod Promise
 pub mod Machine
 pub mod Writing
 pub mod Table
-pub mod PaintSamples
+pub mod SendSamples

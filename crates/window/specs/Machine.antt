@@ -6,7 +6,7 @@ use Rattle.window.specs.Window.{virtual, rowOf, columnOf}
 use Rattle.window.specs.Core.{Lent, Called, opened, keyed}
 use Rattle.window.specs.Terminal.{View, picture}
 use Rattle.window.specs.Sequences.{sentColumn}
-use Rattle.window.specs.Painting.{PaintOutcome, painting}
+use Rattle.window.specs.Sending.{SendOutcome, sending}
 
 -- ---- The machine
 
@@ -76,12 +76,12 @@ pub record Line : Type 0 where
   pub terminal : Machine
 
 -- After a call the routine is asked for the bytes, whatever the answer was, and as many as it counts go to the terminal.
-abbrev pub bytesAfter : Called → List ℕ → PaintOutcome
+abbrev pub bytesAfter : Called → List ℕ → SendOutcome
 bytesAfter o buffer =
-    painting (o .session .frame .h) (o .session .frame .w) (o .answer .first) (o .answer .last) (o .answer .row) (o .answer .column)
+    sending (o .session .frame .h) (o .session .frame .w) (o .answer .first) (o .answer .last) (o .answer .row) (o .answer .column)
     (o .lent .screen) buffer
 
-abbrev pub sent : Called → PaintOutcome → Machine → Line
+abbrev pub sent : Called → SendOutcome → Machine → Line
 sent o p m =
     record {
       called = o;

@@ -26,5 +26,5 @@ abbrev pub sentColumn : ℕ → ℕ → ℕ
 sentColumn W column = cond (ltb column W) (column + 1) W
 
 -- All of it: the named rows, and then the cursor's place. (M-100: at the end.)
-unfoldable pub painted : ℕ → ℕ → ℕ → ℕ → ℕ → List ℕ → List ℕ
-painted W first last row column screen = sentRows W first last screen ++ placed row (sentColumn W column)
+unfoldable pub sentScreen : ℕ → ℕ → ℕ → ℕ → ℕ → List ℕ → List ℕ
+sentScreen W first last row column screen = sentRows W first last screen ++ placed row (sentColumn W column)

@@ -7,7 +7,7 @@ ghost use Prim.Native.Nat.{_+_, _*_, _≤_, _<_};
 ghost use lib.ListN.{length};
 ghost use Rattle.gap.specs.Written.{Wrote};
 ghost use Rattle.window.specs.Sequences.{placed, sentRow, sentRows, namedRows, sentColumn};
-ghost use Rattle.window.specs.Writing.{RowsIn, rowsSize, paintedSize};
+ghost use Rattle.window.specs.Writing.{RowsIn, rowsSize, sentSize};
 
 // ---- How long
 
@@ -54,9 +54,9 @@ pub fn sent_column(w: usize, column: usize) -> usize
 }
 
 // The named rows and the cursor's place.
-pub fn painted_size(w: usize, first: usize, last: usize, row: usize, column: usize) -> usize
+pub fn sent_size(w: usize, first: usize, last: usize, row: usize, column: usize) -> usize
     requires { ⌜ (first ≤ last) × (last ≤ 64) × (w ≤ 256) ⌝ }
-    ensures { λ n. ⌜ n ≡ paintedSize w first last row column ⌝ }
+    ensures { λ n. ⌜ n ≡ sentSize w first last row column ⌝ }
 {
     rows_size(w, first, last) + place_size(row, sent_column(w, column))
 }

@@ -19,8 +19,8 @@ use Rattle.gap.proofs.Laws.Decimals.{decimal-within, decimal-short}
 use Rattle.gap.proofs.Laws.Writers.{wrote-none, then, wrote-length}
 use Rattle.window.specs.Window.{joined}
 use Rattle.window.specs.Rows.{screenRow}
-use Rattle.window.specs.Sequences.{placed, sentRow, namedRows, sentRows, sentColumn, painted}
-use Rattle.window.specs.Writing.{RowsIn, rowsSize, paintedSize}
+use Rattle.window.specs.Sequences.{placed, sentRow, namedRows, sentRows, sentColumn, sentScreen}
+use Rattle.window.specs.Writing.{RowsIn, rowsSize, sentSize}
 
 -- ---- A place
 
@@ -197,10 +197,10 @@ length-named {W} {first} {last} {screen} rows =
     (count first last)
 
 -- The size that is counted beforehand is the length of the bytes.
-pub painted-size : {W first last : ℕ} (row column : ℕ) {screen : List ℕ} → RowsIn W first last screen
-    → length (painted W first last row column screen) ≡ paintedSize W first last row column
-unfolding painted paintedSize
-painted-size row column rows = rw (length-append, length-named rows)
+pub sent-size : {W first last : ℕ} (row column : ℕ) {screen : List ℕ} → RowsIn W first last screen
+    → length (sentScreen W first last row column screen) ≡ sentSize W first last row column
+unfolding sentScreen sentSize
+sent-size row column rows = rw (length-append, length-named rows)
 
 -- A screen has at most 64 rows of 256 cells, so that no sum on the way to the size can wrap.
 module _ (W first last : ℕ) (ordered : first ≤ last) (few : last ≤ 64) {rows : ℕ} (named : rows ≡ namedRows first last) where
@@ -227,7 +227,7 @@ pub size-all : (W k : ℕ) {rows n size : ℕ} → size ≡ rowsSize W n k → n
 size-all W k {rows} {n} sized most done = let all : n ≡ rows = omega arith in rw all at sized
 
 -- The sizes of the rows and of the cursor's place.
-pub painted-sum : (W first last row column : ℕ) {rows place sent : ℕ} → rows ≡ rowsSize W (namedRows first last) first
-    → place ≡ length (placed row sent) → sent ≡ sentColumn W column → rows + place ≡ paintedSize W first last row column
-unfolding paintedSize
-painted-sum W first last row column rows-so place-so sent-so = rw (rows-so, place-so, sent-so)
+pub sent-sum : (W first last row column : ℕ) {rows place sent : ℕ} → rows ≡ rowsSize W (namedRows first last) first
+    → place ≡ length (placed row sent) → sent ≡ sentColumn W column → rows + place ≡ sentSize W first last row column
+unfolding sentSize
+sent-sum W first last row column rows-so place-so sent-so = rw (rows-so, place-so, sent-so)

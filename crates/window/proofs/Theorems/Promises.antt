@@ -11,15 +11,15 @@ use Rattle.editor.specs.Keys.{key, keys, after}
 use Rattle.editor.specs.Bytes.{quarter}
 use Rattle.window.specs.Words.{Session}
 use Rattle.window.specs.Core.{Lent, Called, T, tabled, held, isSession, unopened, turnedDown}
-use Rattle.window.specs.Painting.{PaintOutcome, unpainted}
-use Rattle.window.specs.Promise.{OpenPromise, KeyPromise, PaintPromise}
+use Rattle.window.specs.Sending.{SendOutcome, unsent}
+use Rattle.window.specs.Promise.{OpenPromise, KeyPromise, SendPromise}
 use Rattle.window.specs.Terminal.{Bench, given, openingView, struck, typed, viewed, picture}
 use Rattle.window.specs.Machine.{Machine, Line, sent, bytesAfter, openedLine, struckLine, typedLine, showing}
 use Rattle.window.proofs.Theorems.Refusals.{opening-leaves, key-leaves}
 use Rattle.window.proofs.Theorems.Sessions.{key-follows}
 use Rattle.window.proofs.Theorems.NamedRows.{Shortest}
 use Rattle.window.proofs.Theorems.DemandThree.{demand-three, key-names}
-use Rattle.window.proofs.Theorems.Painting.{painting-leaves}
+use Rattle.window.proofs.Theorems.Sending.{sending-leaves}
 use Rattle.window.proofs.Theorems.Line.{Ready, demand-three-line}
 
 -- Demand 1: a call that is refused has changed no byte, and hands back the record as document 01 says.
@@ -68,23 +68,23 @@ rows-named s k b o promise fit ok =
     (key-names s k b fit ok)
 
 -- The routine: refused, it has written nothing.
-pub painting-refused : (H W first last row column : ℕ) (screen buffer : List ℕ) (p : PaintOutcome)
-    → PaintPromise H W first last row column screen buffer p → (p .code ≡ 0 → ⊥) → p ≡ unpainted (p .code) (p .place) buffer
-painting-refused H W first last row column screen buffer p promise bad =
-    subst⁻¹ (λ x. (x .code ≡ 0 → ⊥) → x ≡ unpainted (x .code) (x .place) buffer) promise
-    (painting-leaves H W first last row column screen buffer) bad
+pub sending-refused : (H W first last row column : ℕ) (screen buffer : List ℕ) (p : SendOutcome)
+    → SendPromise H W first last row column screen buffer p → (p .code ≡ 0 → ⊥) → p ≡ unsent (p .code) (p .place) buffer
+sending-refused H W first last row column screen buffer p promise bad =
+    subst⁻¹ (λ x. (x .code ≡ 0 → ⊥) → x ≡ unsent (x .code) (x .place) buffer) promise
+    (sending-leaves H W first last row column screen buffer) bad
 
 -- What it promises of the bytes for a call's answer.
-abbrev pub SendPromise : Called → List ℕ → PaintOutcome → Type 0
-SendPromise o buffer p =
-    PaintPromise (o .session .frame .h) (o .session .frame .w) (o .answer .first) (o .answer .last) (o .answer .row) (o .answer .column)
+abbrev pub SendAfterPromise : Called → List ℕ → SendOutcome → Type 0
+SendAfterPromise o buffer p =
+    SendPromise (o .session .frame .h) (o .session .frame .w) (o .answer .first) (o .answer .last) (o .answer .row) (o .answer .column)
     (o .lent .screen) buffer p
 
 -- Demand 3 on a line: any run of calls, each handed what the one before gave back, with the routine after each and its bytes sent.
 pub data LineRun : List Key → Line → Line → Type 0 where
   at-rest : {at : Line} → LineRun [] at at
-  strike : {k : Key} {ks : List Key} {at end : Line} (o : Called) (p : PaintOutcome)
-      → KeyPromise (at .called .session) k (at .called .lent) o → SendPromise o (at .buffer) p
+  strike : {k : Key} {ks : List Key} {at end : Line} (o : Called) (p : SendOutcome)
+      → KeyPromise (at .called .session) k (at .called .lent) o → SendAfterPromise o (at .buffer) p
       → LineRun ks (sent o p (at .terminal)) end → LineRun (k ∷ ks) at end
 
 run-line : {ks : List Key} {at end : Line} → LineRun ks at end → end ≡ typedLine ks at
@@ -96,7 +96,7 @@ run-line (strike {ks = ks} {at = at} o p key-promise promise run) =
     ∙ ap (λ x. typedLine ks (sent x (bytesAfter x (at .buffer)) (at .terminal))) key-promise)
 
 module _ (n H W : ℕ) (b : Lent) (o : Called) (promise : OpenPromise n H W b o) (accepts : o .answer .code ≡ 0) where
-  pub line-shows : (buffer : List ℕ) (p : PaintOutcome) (m : Machine) → SendPromise o buffer p → Ready H W buffer m
+  pub line-shows : (buffer : List ℕ) (p : SendOutcome) (m : Machine) → SendAfterPromise o buffer p → Ready H W buffer m
       → (ks : List Key) (end : Line) → LineRun ks (sent o p m) end
       → (end .terminal ≡ showing (viewed (T (b .stores)) ks (openingView n H W b)))
       × (viewed (T (b .stores)) ks (openingView n H W b) .plain ≡ keys (T (b .stores)) quarter ks (opening (take n (b .stores .text))))

@@ -1,14 +1,14 @@
 // The routine that brings a terminal up to date: what is wrong is refused, and then nothing is written.
-use crate::Painting;
+use crate::Sending;
 use crate::calls::rows_and_columns;
-use crate::sequences::painted_size;
 use crate::sequences::sent_column;
+use crate::sequences::sent_size;
 use crate::writer::write_screen;
 use gap::Search;
 use gap::sound::bad_cell;
 ghost use mathlib.Core.Path.{_≡_};
-ghost use Rattle.window.specs.Sequences.{painted};
-ghost use Rattle.window.specs.Painting.{rowsOn, cursorOn, paintable, paintedInto, painting};
+ghost use Rattle.window.specs.Sequences.{sentScreen};
+ghost use Rattle.window.specs.Sending.{rowsOn, cursorOn, sendable, sentInto, sending};
 ghost use Rattle.window.specs.Writing.{RowsIn, outcomeOf};
 
 // The named rows are rows of the screen in their order, or none.
@@ -26,7 +26,7 @@ fn cursor_on(h: usize, w: usize, row: usize, column: usize) -> bool
 }
 
 // All sizes are right. H and W are known to be small before they are multiplied.
-fn is_paintable(
+fn is_sendable(
     h: usize,
     w: usize,
     first: usize,
@@ -35,7 +35,7 @@ fn is_paintable(
     column: usize,
     screen: &[u8],
 ) -> bool
-    ensures { λ ok. ⌜ ok ≡ paintable h w first last row column (now (screen .entry)) ⌝ }
+    ensures { λ ok. ⌜ ok ≡ sendable h w first last row column (now (screen .entry)) ⌝ }
 {
     if !rows_and_columns(h, w) {
         return false;
@@ -44,10 +44,10 @@ fn is_paintable(
 }
 
 // A refusal.
-fn unpainted(code: usize, place: usize) -> Painting
+fn unsent(code: usize, place: usize) -> Sending
     ensures { λ a. ⌜ a ≡ record { code = code; place = place; count = 0 } ⌝ }
 {
-    Painting {
+    Sending {
         code: code,
         place: place,
         count: 0,
@@ -55,7 +55,7 @@ fn unpainted(code: usize, place: usize) -> Painting
 }
 
 // The bytes are counted before one is written, so that ROOM leaves the buffer as it was.
-fn paint_counted(
+fn send_counted(
     w: usize,
     first: usize,
     last: usize,
@@ -63,16 +63,16 @@ fn paint_counted(
     column: usize,
     screen: &[u8],
     out: &mut [u8],
-) -> Painting
+) -> Sending
     requires { ⌜ RowsIn w first last (now screen) ⌝ }
-    ensures { λ a. ⌜ outcomeOf a (now (out .exit)) ≡ paintedInto (painted w first last row column (now (screen .entry))) (now (out .entry)) ⌝ }
+    ensures { λ a. ⌜ outcomeOf a (now (out .exit)) ≡ sentInto (sentScreen w first last row column (now (screen .entry))) (now (out .entry)) ⌝ }
 {
-    let size = painted_size(w, first, last, row, column);
+    let size = sent_size(w, first, last, row, column);
     if out.len() < size {
-        return unpainted(7, 0);
+        return unsent(7, 0);
     }
     let count = write_screen(w, first, last, row, sent_column(w, column), screen, out);
-    Painting {
+    Sending {
         code: 0,
         place: 0,
         count: count,
@@ -80,7 +80,7 @@ fn paint_counted(
 }
 
 // SIZE, TEXT, ROOM, or the bytes at the front of the buffer.
-pub fn paint(
+pub fn send(
     h: usize,
     w: usize,
     first: usize,
@@ -89,14 +89,14 @@ pub fn paint(
     column: usize,
     screen: &[u8],
     out: &mut [u8],
-) -> Painting
-    ensures { λ a. ⌜ outcomeOf a (now (out .exit)) ≡ painting h w first last row column (now (screen .entry)) (now (out .entry)) ⌝ }
+) -> Sending
+    ensures { λ a. ⌜ outcomeOf a (now (out .exit)) ≡ sending h w first last row column (now (screen .entry)) (now (out .entry)) ⌝ }
 {
-    if !is_paintable(h, w, first, last, row, column, screen) {
-        return unpainted(1, 0);
+    if !is_sendable(h, w, first, last, row, column, screen) {
+        return unsent(1, 0);
     }
     let Search::Reached(i) = bad_cell(screen) else {
-        return paint_counted(w, first, last, row, column, screen, out);
+        return send_counted(w, first, last, row, column, screen, out);
     };
-    unpainted(3, i)
+    unsent(3, i)
 }

@@ -14,31 +14,31 @@ use Rattle.gap.specs.Sequence.{patch}
 use Rattle.gap.specs.Written.{Wrote}
 use Rattle.gap.proofs.Laws.Tests.{cond-true, cond-false}
 use Rattle.editor.specs.Plain.{SIZE, TEXT}
-use Rattle.window.specs.declared.Painting.{Painting}
+use Rattle.window.specs.declared.Sending.{Sending}
 use Rattle.window.specs.Core.{rowsAndColumns}
-use Rattle.window.specs.Sequences.{placed, namedRows, sentRows, sentColumn, painted}
-use Rattle.window.specs.Painting.{PaintOutcome, ROOM, rowsOn, cursorOn, paintable, badCell, paintedInto, unlessBadCell, painting}
-use Rattle.window.specs.Writing.{RowsIn, paintedSize, outcomeOf}
-use Rattle.window.proofs.Laws.Paintable.{Paintable, paintable-facts, sent-on}
-use Rattle.window.proofs.Laws.Sequences.{cursor-place-short, named-most, rows-most, painted-size}
+use Rattle.window.specs.Sequences.{placed, namedRows, sentRows, sentColumn, sentScreen}
+use Rattle.window.specs.Sending.{SendOutcome, ROOM, rowsOn, cursorOn, sendable, badCell, sentInto, unlessBadCell, sending}
+use Rattle.window.specs.Writing.{RowsIn, sentSize, outcomeOf}
+use Rattle.window.proofs.Laws.Sendable.{Sendable, sendable-facts, sent-on}
+use Rattle.window.proofs.Laws.Sequences.{cursor-place-short, named-most, rows-most, sent-size}
 
 -- ---- SIZE
 
 module _ (H W first last row column : ℕ) (screen : List ℕ) where
   -- H and W are tested first.
-  pub not-paintable : rowsAndColumns H W ≡ false → false ≡ paintable H W first last row column screen
-  unfolding paintable
-  not-paintable bad =
+  pub not-sendable : rowsAndColumns H W ≡ false → false ≡ sendable H W first last row column screen
+  unfolding sendable
+  not-sendable bad =
       sym (ap (λ t. (t && eqb (length screen) (H * W)) && (rowsOn H first last && cursorOn H W row column)) bad)
 
-  pub paintable-so : {rows cursor : Bool} → rowsAndColumns H W ≡ true → rows ≡ rowsOn H first last → cursor ≡ cursorOn H W row column
-      → (eqb (length screen) (H * W) && (rows && cursor)) ≡ paintable H W first last row column screen
-  unfolding paintable
-  paintable-so good rows-so cursor-so = rw (rows-so, cursor-so, good)
+  pub sendable-so : {rows cursor : Bool} → rowsAndColumns H W ≡ true → rows ≡ rowsOn H first last → cursor ≡ cursorOn H W row column
+      → (eqb (length screen) (H * W) && (rows && cursor)) ≡ sendable H W first last row column screen
+  unfolding sendable
+  sendable-so good rows-so cursor-so = rw (rows-so, cursor-so, good)
 
-module _ (H W first last row column : ℕ) (screen : List ℕ) (e : paintable H W first last row column screen ≡ true) where
-  abbrev facts : Paintable H W first last row column screen
-  facts = paintable-facts H W first last row column screen e
+module _ (H W first last row column : ℕ) (screen : List ℕ) (e : sendable H W first last row column screen ≡ true) where
+  abbrev facts : Sendable H W first last row column screen
+  facts = sendable-facts H W first last row column screen e
 
   -- What the functions that count and write ask of the rows.
   pub rows-in : RowsIn W first last screen
@@ -51,41 +51,41 @@ module _ (H W first last row column : ℕ) (screen : List ℕ) (e : paintable H 
       }
 
   -- A buffer that is always large enough: for a row its W cells and 7 bytes for its place, and 9 for the cursor's.
-  pub enough-room : length (painted W first last row column screen) ≤ H * (W + 7) + 9
-  unfolding paintedSize
+  pub enough-room : length (sentScreen W first last row column screen) ≤ H * (W + 7) + 9
+  unfolding sentSize
   enough-room =
       let told = facts in
       let few : namedRows first last ≤ H = omega (arith, named-most first last) in
       let rows = rows-most W first last (told .ordered) (omega arith) refl (namedRows first last) (omega arith) in
       let place = cursor-place-short row (sentColumn W column) (omega arith) (omega (arith, sent-on W column (told .wide))) in
-      omega (arith, painted-size row column rows-in, mul-le-mul-right (W + 7) few)
+      omega (arith, sent-size row column rows-in, mul-le-mul-right (W + 7) few)
 
 -- ---- ROOM
 
 -- The size is counted before a byte is written, and decides.
 module _ (W first last row column : ℕ) (screen buffer : List ℕ) (rows : RowsIn W first last screen)
-    {size : ℕ} (sized : size ≡ paintedSize W first last row column) where
+    {size : ℕ} (sized : size ≡ sentSize W first last row column) where
   abbrev run : List ℕ
-  run = painted W first last row column screen
+  run = sentScreen W first last row column screen
 
   counted-so : size ≡ length run
-  counted-so = sized ∙ sym (painted-size row column rows)
+  counted-so = sized ∙ sym (sent-size row column rows)
 
-  pub room-refused : {a : Painting} → length buffer < size → a ≡ record { code = ROOM; place = 0; count = 0 }
-      → outcomeOf a buffer ≡ paintedInto run buffer
+  pub room-refused : {a : Sending} → length buffer < size → a ≡ record { code = ROOM; place = 0; count = 0 }
+      → outcomeOf a buffer ≡ sentInto run buffer
   room-refused over e =
       ap (λ b. outcomeOf b buffer) e ∙ sym (cond-false _ _ (lt-leb (length run) (length buffer) (omega (arith, counted-so))))
 
   module _ (fits : size ≤ length buffer) {sent : ℕ} (column-so : sent ≡ sentColumn W column) where
     same-run : run ≡ sentRows W first last screen ++ placed row sent
-    unfolding painted
+    unfolding sentScreen
     same-run = rw column-so
 
     pub room-enough : length (sentRows W first last screen ++ placed row sent) ≤ length buffer
     room-enough = rw same-run at (rw counted-so at fits)
 
     pub all-written : {count : ℕ} {new : List ℕ} → Wrote 0 (sentRows W first last screen ++ placed row sent) buffer count new
-        → outcomeOf (record { code = 0; place = 0; count = count }) new ≡ paintedInto run buffer
+        → outcomeOf (record { code = 0; place = 0; count = count }) new ≡ sentInto run buffer
     all-written {count} {new} wrote =
         let counts : count ≡ length run = wrote .place ∙ omega (arith, ap length same-run) in
         let bytes : new ≡ patch 0 run buffer = rw same-run (wrote .bytes) in
@@ -95,30 +95,30 @@ module _ (W first last row column : ℕ) (screen buffer : List ℕ) (rows : Rows
 -- ---- The tests in their order
 
 -- Sizes that pass the test let the rows be written.
-pub rows-pass : (H W first last row column : ℕ) (screen : List ℕ) {ok : Bool} → ok ≡ paintable H W first last row column screen
+pub rows-pass : (H W first last row column : ℕ) (screen : List ℕ) {ok : Bool} → ok ≡ sendable H W first last row column screen
     → not ok ≡ false → RowsIn W first last screen
 rows-pass H W first last row column screen known passed =
     rows-in H W first last row column screen (sym known ∙ not-false _ passed)
 
-module _ (H W first last row column : ℕ) (screen buffer : List ℕ) {ok : Bool} (known : ok ≡ paintable H W first last row column screen) where
-  pub size-refused : {a : Painting} → not ok ≡ true → a ≡ record { code = SIZE; place = 0; count = 0 }
-      → outcomeOf a buffer ≡ painting H W first last row column screen buffer
-  unfolding painting
+module _ (H W first last row column : ℕ) (screen buffer : List ℕ) {ok : Bool} (known : ok ≡ sendable H W first last row column screen) where
+  pub size-refused : {a : Sending} → not ok ≡ true → a ≡ record { code = SIZE; place = 0; count = 0 }
+      → outcomeOf a buffer ≡ sending H W first last row column screen buffer
+  unfolding sending
   size-refused bad e = ap (λ b. outcomeOf b buffer) e ∙ sym (cond-false _ _ (sym known ∙ not-true _ bad))
 
   -- What follows on the search for a byte that is not printed.
-  abbrev after : Search → PaintOutcome
-  after s = unlessBadCell s buffer (paintedInto (painted W first last row column screen) buffer)
+  abbrev after : Search → SendOutcome
+  after s = unlessBadCell s buffer (sentInto (sentScreen W first last row column screen) buffer)
 
   module _ (passed : not ok ≡ false) {found : Search} (search : found ≡ badCell screen) where
-    cells-decide : painting H W first last row column screen buffer ≡ after found
-    unfolding painting
+    cells-decide : sending H W first last row column screen buffer ≡ after found
+    unfolding sending
     cells-decide = cond-true _ _ (sym known ∙ not-false _ passed) ∙ ap after (sym search)
 
-    pub text-refused : {a : Painting} (i : ℕ) → found ≡ Reached i → a ≡ record { code = TEXT; place = i; count = 0 }
-        → outcomeOf a buffer ≡ painting H W first last row column screen buffer
+    pub text-refused : {a : Sending} (i : ℕ) → found ≡ Reached i → a ≡ record { code = TEXT; place = i; count = 0 }
+        → outcomeOf a buffer ≡ sending H W first last row column screen buffer
     text-refused i there e = ap (λ b. outcomeOf b buffer) e ∙ sym (cells-decide ∙ ap after there)
 
     pub cells-printed : found ≡ Nowhere
-        → paintedInto (painted W first last row column screen) buffer ≡ painting H W first last row column screen buffer
+        → sentInto (sentScreen W first last row column screen) buffer ≡ sending H W first last row column screen buffer
     cells-printed none = sym (cells-decide ∙ ap after none)

@@ -5,14 +5,14 @@ use Rattle.gap.specs.Nearest.{nearest}
 use Rattle.gap.specs.Layout.{printable}
 use Rattle.editor.specs.Plain.{SIZE, TEXT}
 use Rattle.window.specs.Core.{rowsAndColumns}
-use Rattle.window.specs.Sequences.{painted}
+use Rattle.window.specs.Sequences.{sentScreen}
 
 -- The seventh refusal. (M-100: 7 ROOM.)
 abbrev pub ROOM : ℕ
 ROOM = 7
 
 -- What the routine determines: 0 or a refusal's number, the place of TEXT, how many bytes it wrote, and the buffer.
-pub record PaintOutcome : Type 0 where
+pub record SendOutcome : Type 0 where
   pub code : ℕ
   pub place : ℕ
   pub count : ℕ
@@ -27,8 +27,8 @@ abbrev pub cursorOn : ℕ → ℕ → ℕ → ℕ → Bool
 cursorOn H W row column = leb 1 row && (leb row H && leb column W)
 
 -- SIZE does not apply.
-unfoldable pub paintable : ℕ → ℕ → ℕ → ℕ → ℕ → ℕ → List ℕ → Bool
-paintable H W first last row column screen =
+unfoldable pub sendable : ℕ → ℕ → ℕ → ℕ → ℕ → ℕ → List ℕ → Bool
+sendable H W first last row column screen =
     (rowsAndColumns H W && eqb (length screen) (H * W)) && (rowsOn H first last && cursorOn H W row column)
 
 -- The first byte of the screen that is not printed, wherever it stands. (M-100: TEXT. DECISIONS C1.)
@@ -36,24 +36,24 @@ abbrev pub badCell : List ℕ → Search
 badCell screen = nearest (λ i. not (printable (getD screen i 0))) (length screen) 0
 
 -- Refused, nothing is written. (M-100: nothing is written then.)
-abbrev pub unpainted : ℕ → ℕ → List ℕ → PaintOutcome
-unpainted code place buffer = record { code = code; place = place; count = 0; buffer = buffer }
+abbrev pub unsent : ℕ → ℕ → List ℕ → SendOutcome
+unsent code place buffer = record { code = code; place = place; count = 0; buffer = buffer }
 
 -- The bytes stand at the front of the buffer, and those behind them are as they were; ROOM if there are more than the buffer has.
 -- (M-100: bytes behind it stay; exactly when the bytes exceed the buffer.)
-abbrev pub paintedInto : List ℕ → List ℕ → PaintOutcome
-paintedInto run buffer =
+abbrev pub sentInto : List ℕ → List ℕ → SendOutcome
+sentInto run buffer =
     cond (leb (length run) (length buffer)) (record { code = 0; place = 0; count = length run; buffer = patch 0 run buffer })
-    (unpainted ROOM 0 buffer)
+    (unsent ROOM 0 buffer)
 
 -- TEXT comes before what else would be answered.
-abbrev pub unlessBadCell : Search → List ℕ → PaintOutcome → PaintOutcome
-unlessBadCell (Reached i) buffer p = unpainted TEXT i buffer
+abbrev pub unlessBadCell : Search → List ℕ → SendOutcome → SendOutcome
+unlessBadCell (Reached i) buffer p = unsent TEXT i buffer
 unlessBadCell Nowhere buffer p = p
 
 -- SIZE, then TEXT, then ROOM. (M-100: refusals, in order.)
-unfoldable pub painting : ℕ → ℕ → ℕ → ℕ → ℕ → ℕ → List ℕ → List ℕ → PaintOutcome
-painting H W first last row column screen buffer =
-    cond (paintable H W first last row column screen)
-    (unlessBadCell (badCell screen) buffer (paintedInto (painted W first last row column screen) buffer))
-    (unpainted SIZE 0 buffer)
+unfoldable pub sending : ℕ → ℕ → ℕ → ℕ → ℕ → ℕ → List ℕ → List ℕ → SendOutcome
+sending H W first last row column screen buffer =
+    cond (sendable H W first last row column screen)
+    (unlessBadCell (badCell screen) buffer (sentInto (sentScreen W first last row column screen) buffer))
+    (unsent SIZE 0 buffer)

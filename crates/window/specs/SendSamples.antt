@@ -1,11 +1,11 @@
 -- Examples of the bytes for a terminal and of a terminal that reads them, worked out by hand from M-100's text.
--- proofs/Theorems/PaintSamples shows that the definitions give each of them.
+-- proofs/Theorems/SendSamples shows that the definitions give each of them.
 use Prim.Native.String.{String}
 use lib.ListN.{replicate}
 use Rattle.window.specs.Words.{List, [], _∷_, _++_, map, Bool, true, false, _&&_, cond, ℕ, _-_, _*_, eqb, length, take}
 use Rattle.gap.specs.Sequence.{sameBytes}
 use Rattle.gap.specs.Strings.{bytes}
-use Rattle.window.specs.Painting.{PaintOutcome, painting}
+use Rattle.window.specs.Sending.{SendOutcome, sending}
 use Rattle.window.specs.Machine.{Reading, cells, escape, rowNumber, columnNumber, lost, Machine, feed}
 
 -- Bytes as they are written here: `^` (94) is ESC, and `$` (36) is a newline.
@@ -46,7 +46,7 @@ pub data Expected : Type 0 where
   Refuses : ℕ → ℕ → Expected
 
 -- What is asked, into a buffer of so many `#` (35).
-pub record PaintSample : Type 0 where
+pub record SendSample : Type 0 where
   pub H : ℕ
   pub W : ℕ
   pub first : ℕ
@@ -61,7 +61,7 @@ abbrev pub dots : ℕ → ℕ → Machine
 dots H W = record { shows = replicate (H * W) 46; row = 1; column = 1; reading = cells }
 
 -- Sent, the run stands at the front and the `#` behind it are left; refused, nothing is written.
-abbrev pub meets : PaintSample → PaintOutcome → Expected → Bool
+abbrev pub meets : SendSample → SendOutcome → Expected → Bool
 meets s p (Sends run after) =
     ((eqb (p .code) 0 && eqb (p .place) 0) && eqb (p .count) (length (written run)))
     && (sameBytes (p .buffer) (written run ++ replicate (s .room - length (written run)) 35)
@@ -69,23 +69,23 @@ meets s p (Sends run after) =
 meets s p (Refuses code place) =
     (eqb (p .code) code && eqb (p .place) place) && (eqb (p .count) 0 && sameBytes (p .buffer) (replicate (s .room) 35))
 
-abbrev pub isPainted : PaintSample → Bool
-isPainted s =
+abbrev pub isSent : SendSample → Bool
+isSent s =
     meets s
-    (painting (s .H) (s .W) (s .first) (s .last) (s .row) (s .column) (written (s .screen)) (replicate (s .room) 35))
+    (sending (s .H) (s .W) (s .first) (s .last) (s .row) (s .column) (written (s .screen)) (replicate (s .room) 35))
     (s .expected)
 
-unfoldable pub allPainted : List PaintSample → Bool
-allPainted [] = true
-allPainted (s ∷ ss) = isPainted s && allPainted ss
+unfoldable pub allSent : List SendSample → Bool
+allSent [] = true
+allSent (s ∷ ss) = isSent s && allSent ss
 
 -- A screen of 2 rows and 3 columns: the named rows, the cursor, and the room.
-abbrev pub small : ℕ → ℕ → ℕ → ℕ → String → ℕ → Expected → PaintSample
+abbrev pub small : ℕ → ℕ → ℕ → ℕ → String → ℕ → Expected → SendSample
 small first last row column screen room expected =
     record { H = 2; W = 3; first = first; last = last; row = row; column = column; screen = screen; room = room; expected = expected }
 
-abbrev pub paintSamples : List PaintSample
-paintSamples =
+abbrev pub sendSamples : List SendSample
+sendSamples =
     -- Both rows, and the cursor at the beginning: 24 bytes. One byte less is ROOM; what is behind them stays.
     small 1 2 1 0 "abcdef" 24 (Sends "^[1;1Habc^[2;1Hdef^[1;1H" (seen "abcdef" 1 1))
     ∷ small 1 2 1 0 "abcdef" 23 (Refuses 7 0)

@@ -1,4 +1,4 @@
--- `is_paintable` tests H and W first, so that their product is small.
+-- `is_sendable` tests H and W first, so that their product is small.
 use mathlib.Core.Path.{_≡_, sym, _∙_}
 use mathlib.Core.Bool.{true}
 use native.Mathlib.Omega.{arith}
@@ -6,15 +6,15 @@ use borrow.Author.Tests.{not-true, not-false}
 use borrow.Author.Needs.{needs}
 use Rattle.window.specs.Core.{rowsAndColumns}
 use Rattle.window.proofs.Laws.KeyCall.{product-small}
-use Rattle.window.proofs.Laws.PaintCall.{not-paintable, paintable-so}
-use Rattle.window.proofs.terminal.is_paintable.Statement.{statement}
-use Rattle.window.proofs.terminal.is_paintable.Tie as tie
+use Rattle.window.proofs.Laws.SendCall.{not-sendable, sendable-so}
+use Rattle.window.proofs.sender.is_sendable.Statement.{statement}
+use Rattle.window.proofs.sender.is_sendable.Tie as tie
 
 rows-and-columns-requires : tie.Need-rows-and-columns-requires
 rows-and-columns-requires c κs = search needs
 
 returns : tie.Need-returns
-returns c = not-paintable _ _ _ _ _ _ _ (sym (c .before .rows-and-columns .ensures) ∙ not-true _ (c .if1 .taken))
+returns c = not-sendable _ _ _ _ _ _ _ (sym (c .before .rows-and-columns .ensures) ∙ not-true _ (c .if1 .taken))
 
 -- H and W have passed their test.
 small : (c : tie.Else1) → rowsAndColumns (c .before .before .before .args .h) (c .before .before .before .args .w) ≡ true
@@ -32,10 +32,10 @@ cursor-on-requires : tie.Need-cursor-on-requires
 cursor-on-requires c κs = search needs
 
 returns-2 : tie.Need-returns-2
-returns-2 c = paintable-so _ _ _ _ _ _ _ (small (c .before .before)) (c .before .rows-on .ensures) (c .cursor-on .ensures)
+returns-2 c = sendable-so _ _ _ _ _ _ _ (small (c .before .before)) (c .before .rows-on .ensures) (c .cursor-on .ensures)
 
-pub is-paintable-spec : {M : Type 1} → statement M
-is-paintable-spec =
+pub is-sendable-spec : {M : Type 1} → statement M
+is-sendable-spec =
     tie.close
     (tie.spec
     rows-and-columns-requires

@@ -11,10 +11,10 @@ use borrow.Author.Tests.{leb-true, eqb-true, ltb-true}
 use Rattle.gap.proofs.Laws.Tests.{decided, and-left, and-right, or-cases, cond-true, cond-false}
 use Rattle.window.specs.Core.{rowsAndColumns}
 use Rattle.window.specs.Sequences.{sentColumn}
-use Rattle.window.specs.Painting.{rowsOn, paintable}
+use Rattle.window.specs.Sending.{rowsOn, sendable}
 
 -- No rows are 0 and 0, which are in order too.
-pub record Paintable (H W first last row column : ℕ) (screen : List ℕ) : Type 0 where
+pub record Sendable (H W first last row column : ℕ) (screen : List ℕ) : Type 0 where
   pub few : H ≤ 64
   pub wide : 1 ≤ W
   pub narrow : W ≤ 256
@@ -37,10 +37,10 @@ rows-ordered H first last e =
     (leb-true first last (and-left (leb first last) _ others), leb-true last H (and-right (leb first last) _ others)))
     (or-cases (eqb first 0 && eqb last 0) _ e)
 
-pub paintable-facts : (H W first last row column : ℕ) (screen : List ℕ) → paintable H W first last row column screen ≡ true
-    → Paintable H W first last row column screen
-unfolding paintable
-paintable-facts H W first last row column screen e =
+pub sendable-facts : (H W first last row column : ℕ) (screen : List ℕ) → sendable H W first last row column screen ≡ true
+    → Sendable H W first last row column screen
+unfolding sendable
+sendable-facts H W first last row column screen e =
     let sizes = and-left (rowsAndColumns H W && eqb (length screen) (H * W)) _ e in
     let others = and-right (rowsAndColumns H W && eqb (length screen) (H * W)) _ e in
     let frame = and-left (rowsAndColumns H W) _ sizes in

@@ -1,9 +1,9 @@
--- `painted_size` adds the sizes of the named rows and of the cursor's place.
+-- `sent_size` adds the sizes of the named rows and of the cursor's place.
 use native.Mathlib.Omega.{arith}
 use borrow.Author.Needs.{needs}
-use Rattle.window.proofs.Laws.Sequences.{place-short, named-small, painted-sum}
-use Rattle.window.proofs.sequences.painted_size.Statement.{statement}
-use Rattle.window.proofs.sequences.painted_size.Tie as tie
+use Rattle.window.proofs.Laws.Sequences.{place-short, named-small, sent-sum}
+use Rattle.window.proofs.sequences.sent_size.Statement.{statement}
+use Rattle.window.proofs.sequences.sent_size.Tie as tie
 
 rows-size-requires : tie.Need-rows-size-requires
 rows-size-requires c κs = search needs
@@ -22,9 +22,9 @@ add-result c =
     record { fits = omega (arith, rows, place, c .before .before .rows-size .ensures, c .place-size .ensures) }
 
 returns : tie.Need-returns
-returns c = painted-sum _ _ _ _ _ (c .before .before .rows-size .ensures) (c .place-size .ensures) (c .before .sent-column .ensures)
+returns c = sent-sum _ _ _ _ _ (c .before .before .rows-size .ensures) (c .place-size .ensures) (c .before .sent-column .ensures)
 
-pub painted-size-spec : {M : Type 1} → statement M
-painted-size-spec =
+pub sent-size-spec : {M : Type 1} → statement M
+sent-size-spec =
     tie.close
     (tie.spec rows-size-requires sent-column-requires place-size-requires add-result returns)
