@@ -1,5 +1,6 @@
 // The window layer: the screen, the core's two calls, and the bytes for a terminal.
 pub mod calls;
+pub mod cells;
 pub mod cursor;
 pub mod host;
 pub mod painter;

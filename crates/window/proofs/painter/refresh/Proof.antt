@@ -2,6 +2,7 @@
 use mathlib.Core.List.{List}
 use Prim.Native.Nat.{ℕ}
 use borrow.Author.Needs.{needs}
+use Rattle.editor.specs.Bytes.{quarter}
 use Rattle.window.specs.declared.Pen.{Pen}
 use Rattle.window.specs.Painter.{sheet}
 use Rattle.window.proofs.Laws.Refresh.{main-held, quoted-held, quarter-size, quoted-asked}
@@ -26,6 +27,7 @@ in-main c =
 in-quoted : (c : tie.After-paint-quoted)
     → Painted (c .before .before .before .before .before .before .before .before .before .before) (c .paint-quoted .result)
     (c .paint-quoted .last .1 .1 .1 .1 .1 .1 .1 .0)
+unfolding quarter
 in-quoted c =
     let told = c .before .before .before in
     let start = told .before .before .before .before .before .before .before in
@@ -47,11 +49,13 @@ enum-told-2 : tie.Need-enum-told-2
 enum-told-2 c = search needs
 
 slice-aggregate-paint-quoted : tie.Need-slice-aggregate-paint-quoted
+unfolding quarter
 slice-aggregate-paint-quoted c =
     let start : tie.Start = search in
     quarter-size (start .pre .0)
 
 paint-quoted-requires : tie.Need-paint-quoted-requires
+unfolding quarter
 paint-quoted-requires c κs =
     let start : tie.Start = search in
     quoted-asked (start .pre .0) (start .pre .1 .0)

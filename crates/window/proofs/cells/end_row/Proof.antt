@@ -1,11 +1,11 @@
--- `painter::end_row` meets its contract: what is left of the row is lent, compared and written over with blanks.
+-- `cells::end_row` meets its contract: what is left of the row is lent, compared and written over with blanks.
 use mathlib.Core.Path.{ap, _∙_}
 use Prim.Native.Nat.{min}
 use native.Mathlib.Omega.{arith}
 use borrow.Author.Needs.{needs}
 use Rattle.window.proofs.Laws.DrawnCells.{on-screen, row-ended}
-use Rattle.window.proofs.painter.end_row.Statement.{statement}
-use Rattle.window.proofs.painter.end_row.Tie as tie
+use Rattle.window.proofs.cells.end_row.Statement.{statement}
+use Rattle.window.proofs.cells.end_row.Tie as tie
 
 excess-requires : tie.Need-excess-requires
 excess-requires c κs = search needs

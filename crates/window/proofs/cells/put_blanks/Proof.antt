@@ -1,10 +1,10 @@
--- `painter::put_blanks` meets its contract: before turn i, the first i cells are blank, and the flag tells whether all were so before.
+-- `cells::put_blanks` meets its contract: before turn i, the first i cells are blank, and the flag tells whether all were so before.
 use Prim.Native.Nat.{_-_}
 use native.Mathlib.Omega.{arith}
 use lib.ListN.{length}
 use Rattle.window.proofs.Laws.DrawnCells.{Blanked, blanked-none, blanked-more, written-all}
-use Rattle.window.proofs.painter.put_blanks.Statement.{statement}
-use Rattle.window.proofs.painter.put_blanks.Tie as tie
+use Rattle.window.proofs.cells.put_blanks.Statement.{statement}
+use Rattle.window.proofs.cells.put_blanks.Tie as tie
 
 abbrev Inv-loop : tie.InvT-loop
 Inv-loop cells₀ same₀ i₀ cells same i = Blanked cells₀ cells same i

@@ -1,10 +1,10 @@
--- `painter::draw_run` meets its contract: of the run nothing is seen, or what is seen is lent, compared and written over in one go.
+-- `cells::draw_run` meets its contract: of the run nothing is seen, or what is seen is lent, compared and written over in one go.
 use mathlib.Core.Path.{sym, _∙_}
 use native.Mathlib.Omega.{arith}
 use borrow.Author.Needs.{needs}
 use Rattle.window.proofs.Laws.DrawnCells.{on-screen, lent-size, shown, run-unseen, run-drawn}
-use Rattle.window.proofs.painter.draw_run.Statement.{statement}
-use Rattle.window.proofs.painter.draw_run.Tie as tie
+use Rattle.window.proofs.cells.draw_run.Statement.{statement}
+use Rattle.window.proofs.cells.draw_run.Tie as tie
 
 add-end : tie.Need-add-end
 add-end c = search needs

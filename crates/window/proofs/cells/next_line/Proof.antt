@@ -1,9 +1,9 @@
--- `painter::next_line` meets its contract: a row that is not marked names none, a marked one is the first or only the last so far.
+-- `cells::next_line` meets its contract: a row that is not marked names none, a marked one is the first or only the last so far.
 use native.Mathlib.Omega.{arith}
 use borrow.Author.Needs.{needs}
 use borrow.Author.Tests.{eq-eqb, ne-eqb, not-true, not-false}
-use Rattle.window.proofs.painter.next_line.Statement.{statement}
-use Rattle.window.proofs.painter.next_line.Tie as tie
+use Rattle.window.proofs.cells.next_line.Statement.{statement}
+use Rattle.window.proofs.cells.next_line.Tie as tie
 
 add-t8 : tie.Need-add-t8
 add-t8 c = search needs

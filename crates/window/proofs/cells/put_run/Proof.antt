@@ -1,11 +1,11 @@
--- `painter::put_run` meets its contract: before turn i, the first i cells are written, and the flag tells whether all were so before.
+-- `cells::put_run` meets its contract: before turn i, the first i cells are written, and the flag tells whether all were so before.
 use mathlib.Core.Path.{refl}
 use Prim.Native.Nat.{_-_}
 use native.Mathlib.Omega.{arith}
 use lib.ListN.{length}
 use Rattle.window.proofs.Laws.DrawnCells.{Written, written-none, written-more, written-all}
-use Rattle.window.proofs.painter.put_run.Statement.{statement}
-use Rattle.window.proofs.painter.put_run.Tie as tie
+use Rattle.window.proofs.cells.put_run.Statement.{statement}
+use Rattle.window.proofs.cells.put_run.Tie as tie
 
 abbrev Inv-loop : tie.InvT-loop
 Inv-loop cells₀ run same₀ i₀ cells same i = Written run cells₀ cells same i
