@@ -9,8 +9,9 @@ pub mod Host
 pub mod Terminal
 pub mod Sequences
 pub mod Sending
-pub mod Promise
+pub mod Refusals
 pub mod Machine
+pub mod Promise
 pub mod Writing
 pub mod Table
 pub mod SendSamples

@@ -1,10 +1,12 @@
 -- A simple terminal as a machine over bytes, and a bench with such a terminal at the end of a line. (02, M-100: a simple terminal.)
-use Rattle.window.specs.Words.{List, [], _∷_, _&&_, cond, ℕ, suc, _+_, _-_, _*_, eqb, leb, ltb, take, set, Key}
+use mathlib.Core.Path.{_≡_}
+use Prim.Native.Nat.{_≤_}
+use Rattle.window.specs.Words.{List, [], _∷_, _&&_, cond, ℕ, suc, _+_, _-_, _*_, eqb, leb, ltb, length, take, set, Key}
 use Rattle.gap.specs.Decimal.{digit, worth}
 use Rattle.gap.specs.Layout.{printable}
 use Rattle.window.specs.Window.{virtual, rowOf, columnOf}
 use Rattle.window.specs.Core.{Lent, Called, opened, keyed}
-use Rattle.window.specs.Terminal.{View, picture}
+use Rattle.window.specs.Terminal.{View, picture, recordOf, storesWith}
 use Rattle.window.specs.Sequences.{sentColumn}
 use Rattle.window.specs.Sending.{SendOutcome, sending}
 
@@ -25,6 +27,10 @@ pub record Machine : Type 0 where
   pub row : ℕ
   pub column : ℕ
   pub reading : Reading
+
+-- A machine with these cells at this place, no sequence begun.
+abbrev pub machine : List ℕ → ℕ → ℕ → Machine
+machine s row column = record { shows = s; row = row; column = column; reading = cells }
 
 -- The same, reading on.
 abbrev pub reads : Machine → Reading → Machine
@@ -49,7 +55,7 @@ cellRead W b m = cond (eqb b 27) (reads m escape) (cond (printable b) (cellShown
 abbrev pub goes : ℕ → ℕ → ℕ → ℕ → Machine → Machine
 goes H W row column m =
     cond ((leb 1 row && leb row H) && (leb 1 column && leb column W))
-    (record { shows = m .shows; row = row; column = column; reading = cells }) (reads m lost)
+    (machine (m .shows) row column) (reads m lost)
 
 -- One byte. (M-100: a terminal that obeys these sequences.)
 unfoldable pub step : ℕ → ℕ → Reading → ℕ → Machine → Machine
@@ -106,13 +112,21 @@ typedLine (k ∷ ks) at = typedLine ks (struckLine k at)
 abbrev pub showing : View → Machine
 showing v =
     let d = virtual (v .plain) in
-    record {
-      shows = picture v;
-      row = rowOf d - v .frame .r;
-      column = sentColumn (v .frame .w) (columnOf d - v .frame .c);
-      reading = cells;
-    }
+    machine (picture v) (rowOf d - v .frame .r) (sentColumn (v .frame .w) (columnOf d - v .frame .c))
 
 -- A buffer in which there is always room: for a row's place 7 bytes, for the cursor's 9.
 abbrev pub enough : ℕ → ℕ → ℕ
 enough H W = H * (W + 7) + 9
+
+-- What a host brings: a buffer with room, and a terminal of the screen's size, which may show anything and is in no sequence.
+pub record Ready (H W : ℕ) (buffer : List ℕ) (m : Machine) : Type 0 where
+  pub room : enough H W ≤ length buffer
+  pub size : length (m .shows) ≡ H * W
+  pub reading : m .reading ≡ cells
+
+-- Record, stores and terminal all hold the view, and the buffer has room.
+pub record OnLine (size : ℕ) (v : View) (at : Line) : Type 0 where
+  pub session : at .called .session ≡ recordOf v
+  pub lent : at .called .lent ≡ storesWith size v (picture v)
+  pub room : enough (v .frame .h) (v .frame .w) ≤ length (at .buffer)
+  pub terminal : at .terminal ≡ showing v

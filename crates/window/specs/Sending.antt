@@ -1,5 +1,6 @@
 -- The routine that writes these bytes into a lent buffer, as a total function on anything it is given. (02, M-100: refusals.)
-use Rattle.window.specs.Words.{List, Bool, not, _&&_, _||_, cond, ℕ, _*_, eqb, leb, length, getD, Search, Reached, Nowhere}
+use mathlib.Core.Path.{_≡_}
+use Rattle.window.specs.Words.{List, Bool, not, _&&_, _||_, cond, ℕ, _*_, eqb, leb, length, take, drop, getD, Search, Reached, Nowhere}
 use Rattle.gap.specs.Sequence.{patch}
 use Rattle.gap.specs.Nearest.{nearest}
 use Rattle.gap.specs.Layout.{printable}
@@ -39,12 +40,14 @@ badCell screen = nearest (λ i. not (printable (getD screen i 0))) (length scree
 abbrev pub unsent : ℕ → ℕ → List ℕ → SendOutcome
 unsent code place buffer = record { code = code; place = place; count = 0; buffer = buffer }
 
+-- A run put at the front of a buffer.
+abbrev pub sentFront : List ℕ → List ℕ → SendOutcome
+sentFront run buffer = record { code = 0; place = 0; count = length run; buffer = patch 0 run buffer }
+
 -- The bytes stand at the front of the buffer, and those behind them are as they were; ROOM if there are more than the buffer has.
 -- (M-100: bytes behind it stay; exactly when the bytes exceed the buffer.)
 abbrev pub sentInto : List ℕ → List ℕ → SendOutcome
-sentInto run buffer =
-    cond (leb (length run) (length buffer)) (record { code = 0; place = 0; count = length run; buffer = patch 0 run buffer })
-    (unsent ROOM 0 buffer)
+sentInto run buffer = cond (leb (length run) (length buffer)) (sentFront run buffer) (unsent ROOM 0 buffer)
 
 -- TEXT comes before what else would be answered.
 abbrev pub unlessBadCell : Search → List ℕ → SendOutcome → SendOutcome
@@ -57,3 +60,11 @@ sending H W first last row column screen buffer =
     cond (sendable H W first last row column screen)
     (unlessBadCell (badCell screen) buffer (sentInto (sentScreen W first last row column screen) buffer))
     (unsent SIZE 0 buffer)
+
+-- ---- What it leaves in the buffer
+
+-- The run is what the buffer begins with, the bytes behind it are as they were, and it is as long as it was.
+pub record Fronted (run old : List ℕ) (count : ℕ) (new : List ℕ) : Type 0 where
+  pub front : take count new ≡ run
+  pub behind : drop count new ≡ drop count old
+  pub long : length new ≡ length old

@@ -17,11 +17,7 @@ use Rattle.gap.proofs.Laws.Runs.{length-patch, patch-none, patch-one}
 use Rattle.gap.proofs.Laws.Writers.{then}
 use Rattle.gap.proofs.Theorems.Decimals.{value-decimal}
 use Rattle.window.specs.Sequences.{placed}
-use Rattle.window.specs.Machine.{Machine, cells, rowNumber, columnNumber, reads, cellShown, goes, step, feed}
-
--- A machine with these cells at this place, no sequence begun.
-abbrev pub machine : List ℕ → ℕ → ℕ → Machine
-machine s row column = record { shows = s; row = row; column = column; reading = cells }
+use Rattle.window.specs.Machine.{Machine, cells, machine, rowNumber, columnNumber, reads, cellShown, goes, step, feed}
 
 -- The column behind a run of cells: the one that it comes to, or the last.
 abbrev pub within : ℕ → ℕ → ℕ

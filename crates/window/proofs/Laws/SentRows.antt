@@ -17,9 +17,9 @@ use Rattle.window.specs.Window.{joined}
 use Rattle.window.specs.Rows.{screenRow}
 use Rattle.window.specs.Terminal.{repaint}
 use Rattle.window.specs.Sequences.{placed, sentRow, namedRows, sentRows}
-use Rattle.window.specs.Machine.{Machine, cells, feed}
+use Rattle.window.specs.Machine.{Machine, cells, machine, feed}
 use Rattle.window.proofs.Laws.Rows.{run-split}
-use Rattle.window.proofs.Laws.Machine.{machine, within-most, feed-append, feed-place, patch-behind, feed-run}
+use Rattle.window.proofs.Laws.Machine.{within-most, feed-append, feed-place, patch-behind, feed-run}
 
 -- What the machine shows after a run of bytes, and that it reads cells again; where it stands does not matter.
 pub record Shows (m : Machine) (s : List ℕ) : Type 0 where

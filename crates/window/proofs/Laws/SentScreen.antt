@@ -9,9 +9,9 @@ use Rattle.gap.specs.Layout.{printable}
 use Rattle.window.specs.Terminal.{repaint}
 use Rattle.window.specs.Sequences.{placed, sentRows, sentColumn, sentScreen}
 use Rattle.window.specs.Sending.{sendable}
-use Rattle.window.specs.Machine.{Machine, cells, feed}
+use Rattle.window.specs.Machine.{Machine, cells, machine, feed}
 use Rattle.window.proofs.Laws.Sendable.{sendable-facts, sent-on}
-use Rattle.window.proofs.Laws.Machine.{machine, feed-append, feed-place}
+use Rattle.window.proofs.Laws.Machine.{feed-append, feed-place}
 use Rattle.window.proofs.Laws.SentRows.{feed-rows}
 
 module _ (H W first last row column : ℕ) (screen : List ℕ) (fit : sendable H W first last row column screen ≡ true) (printed : every printable screen ≡ true) where

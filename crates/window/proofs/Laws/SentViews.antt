@@ -11,11 +11,10 @@ use Rattle.gap.proofs.Laws.Tests.{and-both, or-right}
 use Rattle.window.specs.Words.{Frame}
 use Rattle.window.specs.Window.{virtual, rowOf, columnOf, visible}
 use Rattle.window.specs.Rows.{changed, firstRow, lastRow}
-use Rattle.window.specs.Terminal.{View, picture}
+use Rattle.window.specs.Terminal.{View, picture, Good}
 use Rattle.window.specs.Sending.{rowsOn, cursorOn, sendable}
 use Rattle.window.proofs.Laws.Window.{length-window, visible-says}
 use Rattle.window.proofs.Laws.Rows.{Named, nothing, run, named}
-use Rattle.window.proofs.Laws.Views.{Good}
 
 -- A cursor that is visible is on the screen.
 cursor-on : (f : Frame) (d : Doc) → visible f d ≡ true → cursorOn (f .h) (f .w) (rowOf d - f .r) (columnOf d - f .c) ≡ true

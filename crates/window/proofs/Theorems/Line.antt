@@ -15,14 +15,14 @@ use Rattle.editor.specs.Bytes.{quarter}
 use Rattle.window.specs.Words.{Session}
 use Rattle.window.specs.Window.{policy}
 use Rattle.window.specs.Core.{Lent, Called, T, lentOf, openedText, opened, finished, shown, keyed}
-use Rattle.window.specs.Terminal.{View, openingView, repaint, looked, viewed, picture}
+use Rattle.window.specs.Terminal.{View, openingView, repaint, looked, viewed, picture, Good, recordOf, storesWith}
 use Rattle.window.specs.Sequences.{sentColumn, sentScreen}
 use Rattle.window.specs.Sending.{SendOutcome, rowsOn, sendable, unsent, sending}
-use Rattle.window.specs.Machine.{Machine, cells, feed, Line, bytesAfter, sent, openedLine, struckLine, typedLine, showing, enough}
+use Rattle.window.specs.Machine.{Machine, cells, machine, feed, Line, bytesAfter, sent, openedLine, struckLine, typedLine, showing, enough}
+use Rattle.window.specs.Machine.{OnLine, Ready}
 use Rattle.window.proofs.Laws.Window.{length-window}
 use Rattle.window.proofs.Laws.Rows.{repainted, repaint-all}
-use Rattle.window.proofs.Laws.Views.{tabled-facts, some-rows, Good, recordOf, storesWith, viewOf, session-view, view-keyed, view-size, looked-good}
-use Rattle.window.proofs.Laws.Machine.{machine}
+use Rattle.window.proofs.Laws.Views.{tabled-facts, some-rows, viewOf, session-view, view-keyed, view-size, looked-good}
 use Rattle.window.proofs.Laws.SentScreen.{sent-shown}
 use Rattle.window.proofs.Laws.SendCall.{enough-room}
 use Rattle.window.proofs.Laws.SentViews.{cursorRow, cursorColumn, changed-on, every-on, view-sendable}
@@ -140,13 +140,6 @@ module _ (n H W : ℕ) (b : Lent) (buffer : List ℕ) where
 
 -- ---- Keys on a line
 
--- Record, stores and terminal all hold the view, and the buffer has room.
-pub record OnLine (size : ℕ) (v : View) (at : Line) : Type 0 where
-  pub session : at .called .session ≡ recordOf v
-  pub lent : at .called .lent ≡ storesWith size v (picture v)
-  pub room : enough (v .frame .h) (v .frame .w) ≤ length (at .buffer)
-  pub terminal : at .terminal ≡ showing v
-
 abbrev lineAfter : Called → List ℕ → Machine → Line
 lineAfter o buffer m = sent o (bytesAfter o buffer) m
 
@@ -190,12 +183,6 @@ pub keys-line : (size : ℕ) (ks : List Key) (v : View) (at : Line) → Good siz
 unfolding viewed typedLine
 keys-line size [] v at good on = on
 keys-line size (k ∷ ks) v at good on = keys-line size ks _ (struckLine k at) (key-good size k v good) (key-line size k v good at on)
-
--- What a host brings: a buffer with room, and a terminal of the screen's size, which may show anything and is in no sequence.
-pub record Ready (H W : ℕ) (buffer : List ℕ) (m : Machine) : Type 0 where
-  pub room : enough H W ≤ length buffer
-  pub size : length (m .shows) ≡ H * W
-  pub reading : m .reading ≡ cells
 
 -- After a good open, any list of keys.
 module _ (n H W : ℕ) (b : Lent) (accepts : opened n H W b .answer .code ≡ 0) (buffer : List ℕ) (m : Machine) (ready : Ready H W buffer m) where

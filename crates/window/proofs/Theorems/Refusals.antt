@@ -23,7 +23,8 @@ use Rattle.editor.specs.Keys.{soundKey, pressed, fits, bounded, key}
 use Rattle.editor.specs.Bytes.{quarter}
 use Rattle.window.specs.Words.{Session}
 use Rattle.window.specs.Core.{Lent, Called, T, tabled, isSession, held, unopened, openedText, badByte, unlessBad, opened, turnedDown, shown, finished, keyed}
-use Rattle.window.proofs.Laws.Order.{Check, check, firstFailed, Passing, exactly, accepted-exactly}
+use Rattle.window.specs.Refusals.{check, firstFailed, Passing, openingChecks, keyChecks}
+use Rattle.window.proofs.Laws.Order.{exactly, accepted-exactly}
 
 -- ---- opening
 
@@ -58,11 +59,6 @@ none-fails test n text h = go (nearest (λ i. not (test (getD text i 0))) n 0) r
         let below : i < n = omega (arith, bytes) in
         let high : i < 0 + n = omega arith in
         ap test (getD-take n text i 0 below) ∙ not-false _ (nowhere-none _ n 0 e i zero-le high)))
-
--- The checks of opening, in order.
-abbrev openingChecks : ℕ → ℕ → ℕ → Lent → List Check
-openingChecks n H W b =
-    check SIZE (tabled H W b) ∷ check LONG (leb n (T (b .stores))) ∷ check TEXT (every allowed (take n (b .stores .text))) ∷ []
 
 -- The last check counts only where the one before it passes.
 last-check : (t u v w : Bool) → (u ≡ true → v ≡ w)
@@ -155,15 +151,6 @@ module _ (n H W : ℕ) (b : Lent) where
   opening-no-place other = no-place (tabled H W b) (leb n (T (b .stores))) (badByte n (b .stores .text)) other
 
 -- ---- a key
-
--- The checks of a key, in order; FULL is about the finished texts.
-abbrev keyChecks : Session → Key → Lent → List Check
-keyChecks s k b =
-    check SIZE (tabled (s .frame .h) (s .frame .w) b)
-    ∷ check SESSION (isSession s (b .stores))
-    ∷ check KEY (soundKey k)
-    ∷ check FULL (fits (T (b .stores)) quarter (pressed k (held s (b .stores)) .state))
-    ∷ []
 
 module _ (s : Session) (k : Key) (b : Lent) where
   decision : (t u v w : Bool) → Did Plain → Called

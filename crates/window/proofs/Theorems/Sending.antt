@@ -7,7 +7,7 @@ use Prim.Native.Nat.{ℕ, _≤_}
 use native.Mathlib.Nat.{le-refl}
 use native.Mathlib.Omega.{arith}
 use lib.Dec.{leb}
-use lib.ListN.{length, take, drop, getD}
+use lib.ListN.{length, getD}
 use lib.Seq.{take-length}
 use borrow.Author.Tests.{leb-true}
 use Rattle.gap.specs.declared.Search.{Search}
@@ -19,19 +19,10 @@ use Rattle.gap.proofs.Laws.Nearest.{Least, reached-least}
 use Rattle.gap.proofs.Laws.Writers.{wrote-length, wrote-front, wrote-behind}
 use Rattle.editor.specs.Plain.{SIZE, TEXT}
 use Rattle.window.specs.Sequences.{sentScreen}
-use Rattle.window.specs.Sending.{SendOutcome, ROOM, sendable, badCell, unsent, unlessBadCell, sending}
-use Rattle.window.proofs.Laws.Order.{Check, check, firstFailed, Passing, exactly, accepted-exactly}
+use Rattle.window.specs.Sending.{SendOutcome, ROOM, sendable, badCell, unsent, sentFront, unlessBadCell, sending, Fronted}
+use Rattle.window.specs.Refusals.{Check, check, firstFailed, Passing, sendChecks}
+use Rattle.window.proofs.Laws.Order.{exactly, accepted-exactly}
 use Rattle.window.proofs.Theorems.Refusals.{none, none-fails}
-
--- A run put at the front of a buffer.
-abbrev pub atFront : List ℕ → List ℕ → SendOutcome
-atFront run buffer = record { code = 0; place = 0; count = length run; buffer = patch 0 run buffer }
-
--- The run is what the buffer begins with, the bytes behind it are as they were, and it is as long as it was.
-pub record Fronted (run old : List ℕ) (count : ℕ) (new : List ℕ) : Type 0 where
-  pub front : take count new ≡ run
-  pub behind : drop count new ≡ drop count old
-  pub long : length new ≡ length old
 
 run-fronted : (run old : List ℕ) → length run ≤ length old → Fronted run old (length run) (patch 0 run old)
 run-fronted run old fits =
@@ -48,13 +39,12 @@ module _ (H W first last row column : ℕ) (screen buffer : List ℕ) where
   abbrev answer : SendOutcome
   answer = sending H W first last row column screen buffer
 
-  -- The checks, in order.
-  abbrev sendChecks : List Check
-  sendChecks = check SIZE fit ∷ check TEXT (every printable screen) ∷ check ROOM (leb (length run) (length buffer)) ∷ []
+  abbrev checks : List Check
+  checks = sendChecks H W first last row column screen buffer
 
   -- What is answered, by the three tests.
   choice : Bool → Search → Bool → SendOutcome
-  choice t s u = cond t (unlessBadCell s buffer (cond u (atFront run buffer) (unsent ROOM 0 buffer))) (unsent SIZE 0 buffer)
+  choice t s u = cond t (unlessBadCell s buffer (cond u (sentFront run buffer) (unsent ROOM 0 buffer))) (unsent SIZE 0 buffer)
 
   code-of : (t : Bool) (s : Search) (u : Bool)
       → choice t s u .code ≡ firstFailed (check SIZE t ∷ check TEXT (none s) ∷ check ROOM u ∷ [])
@@ -68,7 +58,7 @@ module _ (H W first last row column : ℕ) (screen buffer : List ℕ) where
   no-bad-cell : none (badCell screen) ≡ every printable screen
   no-bad-cell = none-fails printable (length screen) screen (le-refl _) ∙ ap (every printable) (take-length screen)
 
-  pub sending-code : answer .code ≡ firstFailed sendChecks
+  pub sending-code : answer .code ≡ firstFailed checks
   unfolding sending choice
   sending-code =
       code-of fit (badCell screen) (leb (length run) (length buffer))
@@ -85,8 +75,8 @@ module _ (H W first last row column : ℕ) (screen buffer : List ℕ) where
       ↔ (Passing (check SIZE fit ∷ check TEXT (every printable screen) ∷ []) × (leb (length run) (length buffer) ≡ false))
   sending-room = rw sending-code (exactly (check SIZE _ ∷ check TEXT _ ∷ []) ROOM _ _ refl refl)
 
-  pub sending-accepted : (answer .code ≡ 0) ↔ Passing sendChecks
-  sending-accepted = rw sending-code (accepted-exactly sendChecks refl)
+  pub sending-accepted : (answer .code ≡ 0) ↔ Passing checks
+  sending-accepted = rw sending-code (accepted-exactly checks refl)
 
   -- For TEXT, place is the first index whose byte is not printed; otherwise it is 0.
   places : (t : Bool) (s : Search) (u : Bool) → choice t s u .code ≡ TEXT → s ≡ Reached (choice t s u .place)
@@ -125,14 +115,14 @@ module _ (H W first last row column : ℕ) (screen buffer : List ℕ) where
   sending-leaves bad = leaves fit (badCell screen) (leb (length run) (length buffer)) bad
 
   -- Accepted, the bytes stand at the front of the buffer, which has room for them.
-  accepts : (t : Bool) (s : Search) (u : Bool) → choice t s u .code ≡ 0 → choice t s u ≡ atFront run buffer
+  accepts : (t : Bool) (s : Search) (u : Bool) → choice t s u .code ≡ 0 → choice t s u ≡ sentFront run buffer
   unfolding choice
   accepts false s u e = absurd (omega (arith, e))
   accepts true (Reached i) u e = absurd (omega (arith, e))
   accepts true Nowhere false e = absurd (omega (arith, e))
   accepts true Nowhere true e = refl
 
-  pub sending-done : answer .code ≡ 0 → answer ≡ atFront run buffer
+  pub sending-done : answer .code ≡ 0 → answer ≡ sentFront run buffer
   unfolding sending choice
   sending-done e = accepts fit (badCell screen) (leb (length run) (length buffer)) e
 
