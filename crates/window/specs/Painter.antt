@@ -33,6 +33,18 @@ across f pen = min (pen .x - f .c) (f .w)
 abbrev pub spotOf : Frame → Pen → ℕ
 spotOf f pen = (pen .y - f .r) * f .w + across f pen
 
+-- The cell of a column, in the pen's row; what is asked of the column: it is in the window, or its right edge.
+abbrev pub cellOf : Frame → Pen → ℕ → ℕ
+cellOf f pen column = (pen .y - f .r) * f .w + (column - f .c)
+
+pub record OnRow (f : Frame) (pen : Pen) (column : ℕ) : Type 0 where
+  pub top : f .r ≤ pen .y
+  pub bottom : pen .y < f .r + f .h
+  pub rows : f .h ≤ 64
+  pub columns : f .w ≤ 256
+  pub left : f .c ≤ column
+  pub right : column ≤ f .c + f .w
+
 -- A run of cells is written; a cell that was another one marks the row.
 abbrev pub put : ℕ → List ℕ → Sheet → Sheet
 put at cells p =

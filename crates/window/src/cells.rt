@@ -8,7 +8,7 @@ ghost use lib.ListN.{length, replicate};
 ghost use lib.Dec.{eqb};
 ghost use Rattle.gap.specs.Sequence.{every, sameBytes};
 ghost use Rattle.gap.specs.Lines.{newline};
-ghost use Rattle.window.specs.Painter.{above, over, penBelow, lineEnd, paint, Easel, sheet};
+ghost use Rattle.window.specs.Painter.{above, over, cellOf, OnRow, penBelow, lineEnd, paint, Easel, sheet};
 
 fn larger(a: usize, b: usize) -> usize
     ensures { λ m. ⌜ m ≡ max a b ⌝ }
@@ -26,16 +26,6 @@ fn smaller(a: usize, b: usize) -> usize
         return a;
     }
     b
-}
-
-// What a is above b, or 0.
-fn excess(a: usize, b: usize) -> usize
-    ensures { λ m. ⌜ m ≡ a - b ⌝ }
-{
-    if a < b {
-        return 0;
-    }
-    a - b
 }
 
 // A run of cells is written; answers whether one was another before.
@@ -95,6 +85,14 @@ fn pen_at(pen: Pen, x: usize, changed: bool) -> Pen
     }
 }
 
+// Where the cell of a column is, in the pen's row.
+fn cell_at(f: Frame, pen: Pen, column: usize) -> usize
+    requires { ⌜ OnRow f pen column ⌝ }
+    ensures { λ at. ⌜ at ≡ cellOf f pen column ⌝ }
+{
+    (pen.y - f.r) * f.w + (column - f.c)
+}
+
 // A run without newline, in a row of the window: what lies between column c and c + W is written in one go.
 pub fn draw_run(f: Frame, pen: Pen, run: &[u8], screen: &mut [u8]) -> Pen
     requires { ⌜ every (λ b. not (eqb b newline)) (now run) ≡ true ⌝ }
@@ -102,24 +100,17 @@ pub fn draw_run(f: Frame, pen: Pen, run: &[u8], screen: &mut [u8]) -> Pen
     requires { ⌜ (above f pen ≡ false) × (over f pen ≡ false) ⌝ }
     ensures { λ q. ⌜ sheet q (now (screen .exit)) ≡ paint f (now (run .entry)) (sheet pen (now (screen .entry))) ⌝ }
 {
-    let r = f.r;
-    let c = f.c;
-    let w = f.w;
-    let y = pen.y;
     let x = pen.x;
     let was = pen.changed;
     let end = x + run.len();
-    let low = larger(c, x);
-    let high = smaller(c + w, end);
+    let low = larger(f.c, x);
+    let high = smaller(f.c + f.w, end);
     if high <= low {
         return pen_at(pen, end, was);
     }
-    let seen = high - low;
-    let at = (y - r) * w + (low - c);
-    let stop = at + seen;
-    let from = low - x;
-    let to = from + seen;
-    let changed = put_run(&mut screen[at..stop], &run[from..to]);
+    let at = cell_at(f, pen, low);
+    let stop = at + (high - low);
+    let changed = put_run(&mut screen[at..stop], &run[low - x..high - x]);
     pen_at(pen, end, was | changed)
 }
 
@@ -164,14 +155,11 @@ pub fn end_row(f: Frame, pen: Pen, screen: &mut [u8]) -> Pen
     requires { ⌜ (above f pen ≡ false) × (over f pen ≡ false) ⌝ }
     ensures { λ q. ⌜ sheet q (now (screen .exit)) ≡ lineEnd f (sheet pen (now (screen .entry))) ⌝ }
 {
-    let r = f.r;
-    let w = f.w;
-    let y = pen.y;
     let was = pen.changed;
-    let across = smaller(excess(pen.x, f.c), w);
-    let left = w - across;
-    let at = (y - r) * w + across;
-    let stop = at + left;
+    let edge = f.c + f.w;
+    let low = smaller(larger(f.c, pen.x), edge);
+    let at = cell_at(f, pen, low);
+    let stop = at + (edge - low);
     let changed = put_blanks(&mut screen[at..stop]);
     next_line(f, pen, was | changed)
 }
