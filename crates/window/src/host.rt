@@ -7,6 +7,7 @@ use crate::Session;
 use crate::calls::open;
 use crate::calls::press;
 use crate::calls::tabled_stores;
+use crate::sender::Update;
 use crate::sender::send;
 use editor::Action;
 use editor::Key;
@@ -358,5 +359,11 @@ pub extern "C" fn chidukwore_paint(
     ensures { λ a. ⌜ outcomeOf a (now (buffer .exit))
         ≡ sending rows columns first last row column (now (screen .entry)) (now (buffer .entry)) ⌝ }
 {
-    send(rows, columns, first, last, row, column, screen, buffer)
+    let update = Update {
+        first: first,
+        last: last,
+        row: row,
+        column: column,
+    };
+    send(rows, columns, update, screen, buffer)
 }

@@ -11,6 +11,14 @@ ghost use Rattle.window.specs.Sequences.{sentScreen};
 ghost use Rattle.window.specs.Sending.{rowsOn, cursorOn, sendable, sentInto, sending};
 ghost use Rattle.window.specs.Writing.{RowsIn, outcomeOf};
 
+// What a terminal is brought up to date with: the named rows, first and last, and the cursor, as a call answers them.
+pub struct Update {
+    pub first: usize,
+    pub last: usize,
+    pub row: usize,
+    pub column: usize,
+}
+
 // The named rows are rows of the screen in their order, or none.
 fn rows_on(h: usize, first: usize, last: usize) -> bool
     ensures { λ ok. ⌜ ok ≡ rowsOn h first last ⌝ }
@@ -26,21 +34,13 @@ fn cursor_on(h: usize, w: usize, row: usize, column: usize) -> bool
 }
 
 // All sizes are right. H and W are known to be small before they are multiplied.
-fn is_sendable(
-    h: usize,
-    w: usize,
-    first: usize,
-    last: usize,
-    row: usize,
-    column: usize,
-    screen: &[u8],
-) -> bool
-    ensures { λ ok. ⌜ ok ≡ sendable h w first last row column (now (screen .entry)) ⌝ }
+fn is_sendable(h: usize, w: usize, u: Update, screen: &[u8]) -> bool
+    ensures { λ ok. ⌜ ok ≡ sendable h w (u .first) (u .last) (u .row) (u .column) (now (screen .entry)) ⌝ }
 {
     if !rows_and_columns(h, w) {
         return false;
     }
-    (screen.len() == h * w) & (rows_on(h, first, last) & cursor_on(h, w, row, column))
+    (screen.len() == h * w) & (rows_on(h, u.first, u.last) & cursor_on(h, w, u.row, u.column))
 }
 
 // A refusal.
@@ -55,23 +55,17 @@ fn unsent(code: usize, place: usize) -> Sending
 }
 
 // The bytes are counted before one is written, so that ROOM leaves the buffer as it was.
-fn send_counted(
-    w: usize,
-    first: usize,
-    last: usize,
-    row: usize,
-    column: usize,
-    screen: &[u8],
-    out: &mut [u8],
-) -> Sending
-    requires { ⌜ RowsIn w first last (now screen) ⌝ }
-    ensures { λ a. ⌜ outcomeOf a (now (out .exit)) ≡ sentInto (sentScreen w first last row column (now (screen .entry))) (now (out .entry)) ⌝ }
+fn send_counted(w: usize, u: Update, screen: &[u8], out: &mut [u8]) -> Sending
+    requires { ⌜ RowsIn w (u .first) (u .last) (now screen) ⌝ }
+    ensures { λ a. ⌜ outcomeOf a (now (out .exit))
+        ≡ sentInto (sentScreen w (u .first) (u .last) (u .row) (u .column) (now (screen .entry))) (now (out .entry)) ⌝ }
 {
-    let size = sent_size(w, first, last, row, column);
+    let size = sent_size(w, u.first, u.last, u.row, u.column);
     if out.len() < size {
         return unsent(7, 0);
     }
-    let count = write_screen(w, first, last, row, sent_column(w, column), screen, out);
+    let column = sent_column(w, u.column);
+    let count = write_screen(w, u.first, u.last, u.row, column, screen, out);
     Sending {
         code: 0,
         place: 0,
@@ -80,23 +74,15 @@ fn send_counted(
 }
 
 // SIZE, TEXT, ROOM, or the bytes at the front of the buffer.
-pub fn send(
-    h: usize,
-    w: usize,
-    first: usize,
-    last: usize,
-    row: usize,
-    column: usize,
-    screen: &[u8],
-    out: &mut [u8],
-) -> Sending
-    ensures { λ a. ⌜ outcomeOf a (now (out .exit)) ≡ sending h w first last row column (now (screen .entry)) (now (out .entry)) ⌝ }
+pub fn send(h: usize, w: usize, u: Update, screen: &[u8], out: &mut [u8]) -> Sending
+    ensures { λ a. ⌜ outcomeOf a (now (out .exit))
+        ≡ sending h w (u .first) (u .last) (u .row) (u .column) (now (screen .entry)) (now (out .entry)) ⌝ }
 {
-    if !is_sendable(h, w, first, last, row, column, screen) {
+    if !is_sendable(h, w, u, screen) {
         return unsent(1, 0);
     }
     let Search::Reached(i) = bad_cell(screen) else {
-        return send_counted(w, first, last, row, column, screen, out);
+        return send_counted(w, u, screen, out);
     };
     unsent(3, i)
 }
