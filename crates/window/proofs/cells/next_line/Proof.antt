@@ -5,28 +5,13 @@ use borrow.Author.Tests.{eq-eqb, ne-eqb, not-true, not-false}
 use Rattle.window.proofs.cells.next_line.Statement.{statement}
 use Rattle.window.proofs.cells.next_line.Tie as tie
 
-add-t8 : tie.Need-add-t8
-add-t8 c = search needs
-
 returns : tie.Need-returns
 returns c = rw (not-true (c .before .args .changed) (c .if1 .taken))
-
-sub-row : tie.Need-sub-row
-sub-row c = search needs
-
-add-row : tie.Need-add-row
-add-row c = search needs
-
-add-t10 : tie.Need-add-t10
-add-t10 c = search needs
 
 returns-2 : tie.Need-returns-2
 returns-2 c =
     let args = c .before .before .before .args in
     rw (not-false (args .changed) (c .before .before .if1 .left), eq-eqb (args .pen .first) 0 (omega arith))
-
-add-t9 : tie.Need-add-t9
-add-t9 c = search needs
 
 returns-3 : tie.Need-returns-3
 returns-3 c =
@@ -34,5 +19,12 @@ returns-3 c =
     rw (not-false (args .changed) (c .before .before .if1 .left), ne-eqb (args .pen .first) 0 (λ e. omega arith))
 
 pub next-line-spec : {M : Type 1} → statement M
-next-line-spec =
-    tie.close (tie.spec add-t8 returns sub-row add-row add-t10 returns-2 add-t9 returns-3)
+next-line-spec = tie.close (tie.spec
+    (λ c. search needs)  -- add-t8
+    returns
+    (λ c. search needs)  -- sub-row
+    (λ c. search needs)  -- add-row
+    (λ c. search needs)  -- add-t10
+    returns-2
+    (λ c. search needs)  -- add-t9
+    returns-3)

@@ -12,21 +12,6 @@ Inv-loop cells₀ same₀ i₀ cells same i = Blanked cells₀ cells same i
 abbrev μ-loop : tie.MeasureT-loop
 μ-loop cells₀ same₀ i₀ cells same i = length cells₀ - i
 
-loop-holds : tie.Need-loop-holds Inv-loop μ-loop
-loop-holds c = blanked-none _
-
-slice-read-same : tie.Need-slice-read-same Inv-loop μ-loop
-slice-read-same c = omega arith
-
-slice-write-cells : tie.Need-slice-write-cells Inv-loop μ-loop
-slice-write-cells c = omega arith
-
-add-i : tie.Need-add-i Inv-loop μ-loop
-add-i c = omega arith
-
-loop-less : tie.Need-loop-less Inv-loop μ-loop
-loop-less c = omega arith
-
 loop-again : tie.Need-loop-again Inv-loop μ-loop
 loop-again c = blanked-more (c .before .before .loop .inv) (omega arith)
 
@@ -37,16 +22,10 @@ returns : tie.Need-returns Inv-loop μ-loop
 returns c = written-all (c .before .loop .inv) (omega arith)
 
 pub put-blanks-spec : {M : Type 1} → statement M
-put-blanks-spec =
-    tie.close
-    (tie.spec
-    Inv-loop
-    μ-loop
-    loop-holds
-    slice-read-same
-    slice-write-cells
-    add-i
-    loop-less
-    loop-again
-    same-length
-    returns)
+put-blanks-spec = tie.close (tie.spec Inv-loop μ-loop
+    (λ c. blanked-none _)  -- loop-holds
+    (λ c. omega arith)  -- slice-read-same
+    (λ c. omega arith)  -- slice-write-cells
+    (λ c. omega arith)  -- add-i
+    (λ c. omega arith)  -- loop-less
+    loop-again same-length returns)

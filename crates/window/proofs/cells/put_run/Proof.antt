@@ -13,24 +13,6 @@ Inv-loop cells₀ run same₀ i₀ cells same i = Written run cells₀ cells sam
 abbrev μ-loop : tie.MeasureT-loop
 μ-loop cells₀ run same₀ i₀ cells same i = length run - i
 
-loop-holds : tie.Need-loop-holds Inv-loop μ-loop
-loop-holds c = written-none _ _ (c .pre)
-
-shared-slice-read-b : tie.Need-shared-slice-read-b Inv-loop μ-loop
-shared-slice-read-b c = omega arith
-
-slice-read-same : tie.Need-slice-read-same Inv-loop μ-loop
-slice-read-same c = omega arith
-
-slice-write-cells : tie.Need-slice-write-cells Inv-loop μ-loop
-slice-write-cells c = omega arith
-
-add-i : tie.Need-add-i Inv-loop μ-loop
-add-i c = omega arith
-
-loop-less : tie.Need-loop-less Inv-loop μ-loop
-loop-less c = omega arith
-
 loop-again : tie.Need-loop-again Inv-loop μ-loop
 loop-again c = written-more (c .before .before .before .loop .inv) (c .before .before .loop-test .taken) refl
 
@@ -41,17 +23,11 @@ returns : tie.Need-returns Inv-loop μ-loop
 returns c = written-all (c .before .loop .inv) (c .loop-test .left)
 
 pub put-run-spec : {M : Type 1} → statement M
-put-run-spec =
-    tie.close
-    (tie.spec
-    Inv-loop
-    μ-loop
-    loop-holds
-    shared-slice-read-b
-    slice-read-same
-    slice-write-cells
-    add-i
-    loop-less
-    loop-again
-    same-length
-    returns)
+put-run-spec = tie.close (tie.spec Inv-loop μ-loop
+    (λ c. written-none _ _ (c .pre))  -- loop-holds
+    (λ c. omega arith)  -- shared-slice-read-b
+    (λ c. omega arith)  -- slice-read-same
+    (λ c. omega arith)  -- slice-write-cells
+    (λ c. omega arith)  -- add-i
+    (λ c. omega arith)  -- loop-less
+    loop-again same-length returns)

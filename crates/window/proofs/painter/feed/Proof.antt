@@ -12,15 +12,6 @@ use Rattle.window.proofs.painter.feed.Tie as tie
 draw-requires : tie.Need-draw-requires
 draw-requires c κs = (c .before .before .before .before .pre, le-ltb _ _ (c .before .if1 .taken))
 
-same-length : tie.Need-same-length
-same-length c = search needs
-
-returns : tie.Need-returns
-returns c = c .before .before .draw .ensures
-
-count-newlines-requires : tie.Need-count-newlines-requires
-count-newlines-requires c κs = search needs
-
 add-below : tie.Need-add-below
 add-below c =
     let start = c .before .before .before .before in
@@ -41,15 +32,6 @@ line-start-requires c κs =
     fed-lines (args .f) (args .t .now) (sheet (args .pen) (args .screen .now)) (c .before .count-newlines .ensures)
     (c .before .before .if1 .left) (c .if2 .left)
 
-sub-draw : tie.Need-sub-draw
-sub-draw c = c .line-start .ensures .within
-
-part-draw-start : tie.Need-part-draw-start
-part-draw-start c = c .line-start .ensures .within
-
-part-draw-end : tie.Need-part-draw-end
-part-draw-end c = search needs
-
 -- The window's first line starts where the drawing does.
 starts : (c : tie.After-line-start)
     → let args = c .before .before .before .before .before .before .args in
@@ -61,27 +43,18 @@ starts c =
 draw-requires-2 : tie.Need-draw-requires-2
 draw-requires-2 c κs = let from = c .before .before in fed-asked (starts from) (from .before .before .before .before .before .before .pre)
 
-same-length-2 : tie.Need-same-length-2
-same-length-2 c = search needs
-
 returns-3 : tie.Need-returns-3
 returns-3 c = c .before .before .draw2 .ensures ∙ fed-painted (starts (c .before .before .before .before .before))
 
 pub feed-spec : {M : Type 1} → statement M
-feed-spec =
-    tie.close
-    (tie.spec
-    draw-requires
-    same-length
-    returns
-    count-newlines-requires
-    add-below
-    since-newline-requires
-    returns-2
-    line-start-requires
-    sub-draw
-    part-draw-start
-    part-draw-end
+feed-spec = tie.close (tie.spec draw-requires
+    (λ c. search needs)  -- same-length
+    (λ c. c .before .before .draw .ensures)  -- returns
+    (λ c κs. search needs)  -- count-newlines-requires
+    add-below since-newline-requires returns-2 line-start-requires
+    (λ c. c .line-start .ensures .within)  -- sub-draw
+    (λ c. c .line-start .ensures .within)  -- part-draw-start
+    (λ c. search needs)  -- part-draw-end
     draw-requires-2
-    same-length-2
+    (λ c. search needs)  -- same-length-2
     returns-3)

@@ -29,35 +29,14 @@ after-left c =
     let short = front-short (start .args .l) (start .args .text .now) (start .pre .0 .short) in
     fed-on (none (c .before .before .before)) _ short (c .feed .ensures)
 
-sub-back : tie.Need-sub-back
-sub-back c = search needs
-
-fresh-requires : tie.Need-fresh-requires
-fresh-requires c κs = search needs
-
-slice-aggregate-feed : tie.Need-slice-aggregate-feed
-slice-aggregate-feed c = simp length-take (omega arith)
-
 feed-requires : tie.Need-feed-requires
 feed-requires c κs = fed-next (none (c .before .before)) _ (simp length-take (omega arith))
-
-sub-feed : tie.Need-sub-feed
-sub-feed c = search needs
-
-part-feed-start : tie.Need-part-feed-start
-part-feed-start c = search needs
-
-part-feed-end : tie.Need-part-feed-end
-part-feed-end c = search needs
 
 feed-requires-2 : tie.Need-feed-requires-2
 feed-requires-2 c κs =
     let fed = c .before .before .before .before in
     let start = fed .before .before .before .before .before .before in
     fed-next (after-left fed) _ (tail-short _ (start .args .text .now) (start .pre .0 .short))
-
-same-length : tie.Need-same-length
-same-length c = search needs
 
 returns : tie.Need-returns
 returns c =
@@ -66,16 +45,14 @@ returns c =
     fed-all (after-left fed) _ _ (c .before .before .feed2 .ensures) (main-pieces (args .l) (args .r) (args .text .now))
 
 pub paint-main-spec : {M : Type 1} → statement M
-paint-main-spec =
-    tie.close
-    (tie.spec
-    sub-back
-    fresh-requires
-    slice-aggregate-feed
+paint-main-spec = tie.close (tie.spec
+    (λ c. search needs)  -- sub-back
+    (λ c κs. search needs)  -- fresh-requires
+    (λ c. simp length-take (omega arith))  -- slice-aggregate-feed
     feed-requires
-    sub-feed
-    part-feed-start
-    part-feed-end
+    (λ c. search needs)  -- sub-feed
+    (λ c. search needs)  -- part-feed-start
+    (λ c. search needs)  -- part-feed-end
     feed-requires-2
-    same-length
+    (λ c. search needs)  -- same-length
     returns)

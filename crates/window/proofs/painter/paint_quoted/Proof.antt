@@ -86,38 +86,14 @@ painted₅ : (c : tie.After-close-quotation)
     → Painted (start₅ c) 1 (text₅ (start₅ c)) (c .close-quotation .result) (c .close-quotation .last .1 .1 .0)
 painted₅ c = fed-on (painted₄ (c .before .before .before .before)) (newline ∷ []) (omega arith) (c .close-quotation .ensures)
 
-sub-back : tie.Need-sub-back
-sub-back c = search needs
-
-sub-behind : tie.Need-sub-behind
-sub-behind c = search needs
-
-fresh-requires : tie.Need-fresh-requires
-fresh-requires c κs = search needs
-
-slice-aggregate-feed : tie.Need-slice-aggregate-feed
-slice-aggregate-feed c = simp length-take (omega arith)
-
 feed-requires : tie.Need-feed-requires
 feed-requires c κs = fed-next (painted₀ (c .before .before)) _ (simp length-take (omega arith))
 
 open-quotation-requires : tie.Need-open-quotation-requires
 open-quotation-requires c κs = fed-next (painted₁ (c .before .before .before)) 2 (omega arith)
 
-slice-aggregate-feed-2 : tie.Need-slice-aggregate-feed-2
-slice-aggregate-feed-2 c = simp length-take (omega arith)
-
 feed-requires-2 : tie.Need-feed-requires-2
 feed-requires-2 c κs = fed-next (painted₂ (c .before .before .before .before)) _ (simp length-take (omega arith))
-
-sub-feed : tie.Need-sub-feed
-sub-feed c = search needs
-
-part-feed-start : tie.Need-part-feed-start
-part-feed-start c = search needs
-
-part-feed-end : tie.Need-part-feed-end
-part-feed-end c = search needs
 
 feed-requires-3 : tie.Need-feed-requires-3
 feed-requires-3 c κs =
@@ -126,15 +102,6 @@ feed-requires-3 c κs =
 
 close-quotation-requires : tie.Need-close-quotation-requires
 close-quotation-requires c κs = fed-next (painted₄ (c .before .before .before)) 1 (omega arith)
-
-sub-feed-2 : tie.Need-sub-feed-2
-sub-feed-2 c = search needs
-
-part-feed-start-2 : tie.Need-part-feed-start-2
-part-feed-start-2 c = search needs
-
-part-feed-end-2 : tie.Need-part-feed-end-2
-part-feed-end-2 c = search needs
 
 feed-requires-4 : tie.Need-feed-requires-4
 feed-requires-4 c κs =
@@ -154,25 +121,19 @@ returns c =
     (quoted-pieces (args .l) (args .r) (args .text .now) (args .q) (args .s) (args .quarter .now))
 
 pub paint-quoted-spec : {M : Type 1} → statement M
-paint-quoted-spec =
-    tie.close
-    (tie.spec
-    sub-back
-    sub-behind
-    fresh-requires
-    slice-aggregate-feed
-    feed-requires
-    open-quotation-requires
-    slice-aggregate-feed-2
+paint-quoted-spec = tie.close (tie.spec
+    (λ c. search needs)  -- sub-back
+    (λ c. search needs)  -- sub-behind
+    (λ c κs. search needs)  -- fresh-requires
+    (λ c. simp length-take (omega arith))  -- slice-aggregate-feed
+    feed-requires open-quotation-requires
+    (λ c. simp length-take (omega arith))  -- slice-aggregate-feed-2
     feed-requires-2
-    sub-feed
-    part-feed-start
-    part-feed-end
-    feed-requires-3
-    close-quotation-requires
-    sub-feed-2
-    part-feed-start-2
-    part-feed-end-2
-    feed-requires-4
-    same-length
-    returns)
+    (λ c. search needs)  -- sub-feed
+    (λ c. search needs)  -- part-feed-start
+    (λ c. search needs)  -- part-feed-end
+    feed-requires-3 close-quotation-requires
+    (λ c. search needs)  -- sub-feed-2
+    (λ c. search needs)  -- part-feed-start-2
+    (λ c. search needs)  -- part-feed-end-2
+    feed-requires-4 same-length returns)

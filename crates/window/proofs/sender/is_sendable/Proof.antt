@@ -10,9 +10,6 @@ use Rattle.window.proofs.Laws.SendCall.{not-sendable, sendable-so}
 use Rattle.window.proofs.sender.is_sendable.Statement.{statement}
 use Rattle.window.proofs.sender.is_sendable.Tie as tie
 
-rows-and-columns-requires : tie.Need-rows-and-columns-requires
-rows-and-columns-requires c κs = search needs
-
 returns : tie.Need-returns
 returns c = not-sendable _ _ _ _ _ _ _ (sym (c .before .rows-and-columns .ensures) ∙ not-true _ (c .if1 .taken))
 
@@ -25,22 +22,13 @@ mul-result c =
     let start = c .before .before .before in
     record { fits = omega (arith, product-small (start .args .h) (start .args .w) (small c)) }
 
-rows-on-requires : tie.Need-rows-on-requires
-rows-on-requires c κs = search needs
-
-cursor-on-requires : tie.Need-cursor-on-requires
-cursor-on-requires c κs = search needs
-
 returns-2 : tie.Need-returns-2
 returns-2 c = sendable-so _ _ _ _ _ _ _ (small (c .before .before)) (c .before .rows-on .ensures) (c .cursor-on .ensures)
 
 pub is-sendable-spec : {M : Type 1} → statement M
-is-sendable-spec =
-    tie.close
-    (tie.spec
-    rows-and-columns-requires
-    returns
-    mul-result
-    rows-on-requires
-    cursor-on-requires
+is-sendable-spec = tie.close (tie.spec
+    (λ c κs. search needs)  -- rows-and-columns-requires
+    returns mul-result
+    (λ c κs. search needs)  -- rows-on-requires
+    (λ c κs. search needs)  -- cursor-on-requires
     returns-2)

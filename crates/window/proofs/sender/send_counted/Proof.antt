@@ -5,19 +5,10 @@ use Rattle.window.proofs.Laws.SendCall.{room-refused, room-enough, all-
 use Rattle.window.proofs.sender.send_counted.Statement.{statement}
 use Rattle.window.proofs.sender.send_counted.Tie as tie
 
-sent-size-requires : tie.Need-sent-size-requires
-sent-size-requires c κs = search needs
-
-unsent-requires : tie.Need-unsent-requires
-unsent-requires c κs = search needs
-
 returns : tie.Need-returns
 returns c =
     let counted = c .before .before in
     room-refused _ _ _ _ _ _ _ (counted .before .before .before .pre) (counted .sent-size .ensures) (c .before .if1 .taken) (c .unsent .ensures)
-
-sent-column-requires : tie.Need-sent-column-requires
-sent-column-requires c κs = search needs
 
 write-screen-requires : tie.Need-write-screen-requires
 write-screen-requires c κs =
@@ -29,9 +20,6 @@ write-screen-requires c κs =
           (sent .before .if1 .left) (sent .sent-column .ensures),
     )
 
-same-length : tie.Need-same-length
-same-length c = search needs
-
 returns-2 : tie.Need-returns-2
 returns-2 c =
     let sent = c .before .before .before .before in
@@ -40,13 +28,11 @@ returns-2 c =
     (sent .sent-column .ensures) (c .before .before .write-screen .ensures)
 
 pub send-counted-spec : {M : Type 1} → statement M
-send-counted-spec =
-    tie.close
-    (tie.spec
-    sent-size-requires
-    unsent-requires
+send-counted-spec = tie.close (tie.spec
+    (λ c κs. search needs)  -- sent-size-requires
+    (λ c κs. search needs)  -- unsent-requires
     returns
-    sent-column-requires
+    (λ c κs. search needs)  -- sent-column-requires
     write-screen-requires
-    same-length
+    (λ c. search needs)  -- same-length
     returns-2)

@@ -6,14 +6,8 @@ use Rattle.window.proofs.Laws.Sequences.{length-placed}
 use Rattle.window.proofs.sequences.place_size.Statement.{statement}
 use Rattle.window.proofs.sequences.place_size.Tie as tie
 
-decimal-size-requires : tie.Need-decimal-size-requires
-decimal-size-requires c κs = search needs
-
 add-result : tie.Need-add-result
 add-result c = record { fits = omega (arith, decimal-short (c .before .args .row) (search needs)) }
-
-decimal-size-requires-2 : tie.Need-decimal-size-requires-2
-decimal-size-requires-2 c κs = search needs
 
 add-result-2 : tie.Need-add-result-2
 add-result-2 c =
@@ -26,6 +20,8 @@ returns c =
     omega (arith, length-placed (start .args .row) (start .args .column))
 
 pub place-size-spec : {M : Type 1} → statement M
-place-size-spec =
-    tie.close
-    (tie.spec decimal-size-requires add-result decimal-size-requires-2 add-result-2 returns)
+place-size-spec = tie.close (tie.spec
+    (λ c κs. search needs)  -- decimal-size-requires
+    add-result
+    (λ c κs. search needs)  -- decimal-size-requires-2
+    add-result-2 returns)

@@ -7,9 +7,6 @@ use Rattle.window.proofs.Laws.Sequences.{length-placed}
 use Rattle.window.proofs.sequences.put_place.Statement.{statement}
 use Rattle.window.proofs.sequences.put_place.Tie as tie
 
-slice-aggregate-put : tie.Need-slice-aggregate-put
-slice-aggregate-put c = search needs
-
 put-requires : tie.Need-put-requires
 put-requires c κs =
     let start = c .before .before .before in
@@ -19,9 +16,6 @@ put-decimal-requires : tie.Need-put-decimal-requires
 put-decimal-requires c κs =
     let start : tie.Start = search in
     omega (arith, length-placed (start .args .row) (start .args .column))
-
-slice-aggregate-put-2 : tie.Need-slice-aggregate-put-2
-slice-aggregate-put-2 c = search needs
 
 put-requires-2 : tie.Need-put-requires-2
 put-requires-2 c κs =
@@ -33,16 +27,10 @@ put-decimal-requires-2 c κs =
     let start : tie.Start = search in
     omega (arith, length-placed (start .args .row) (start .args .column))
 
-slice-aggregate-put-3 : tie.Need-slice-aggregate-put-3
-slice-aggregate-put-3 c = search needs
-
 put-requires-3 : tie.Need-put-requires-3
 put-requires-3 c κs =
     let after-put : tie.After-put = search in let start : tie.Start = search in
     omega (arith, length-placed (start .args .row) (start .args .column))
-
-same-length : tie.Need-same-length
-same-length c = search needs
 
 returns : tie.Need-returns
 unfolding placed
@@ -53,16 +41,12 @@ returns c =
     (then (column-end .put-decimal2 .ensures) (c .before .before .put3 .ensures))))
 
 pub put-place-spec : {M : Type 1} → statement M
-put-place-spec =
-    tie.close
-    (tie.spec
-    slice-aggregate-put
-    put-requires
-    put-decimal-requires
-    slice-aggregate-put-2
-    put-requires-2
-    put-decimal-requires-2
-    slice-aggregate-put-3
+put-place-spec = tie.close (tie.spec
+    (λ c. search needs)  -- slice-aggregate-put
+    put-requires put-decimal-requires
+    (λ c. search needs)  -- slice-aggregate-put-2
+    put-requires-2 put-decimal-requires-2
+    (λ c. search needs)  -- slice-aggregate-put-3
     put-requires-3
-    same-length
+    (λ c. search needs)  -- same-length
     returns)

@@ -5,28 +5,10 @@ use Rattle.window.proofs.Laws.Sequences.{place-room, cells-room, row-wr
 use Rattle.window.proofs.sequences.put_row.Statement.{statement}
 use Rattle.window.proofs.sequences.put_row.Tie as tie
 
-add-put-place : tie.Need-add-put-place
-add-put-place c = search needs
-
 put-place-requires : tie.Need-put-place-requires
 put-place-requires c κs =
     let start = c .before .before .before in
     place-room (start .args .w) (start .args .above) (now (start .args .screen)) (start .pre .0 .1) (start .args .at) (start .pre .1)
-
-mul-from : tie.Need-mul-from
-mul-from c = search needs
-
-add-put : tie.Need-add-put
-add-put c = search needs
-
-sub-put : tie.Need-sub-put
-sub-put c = search needs
-
-part-put-start : tie.Need-part-put-start
-part-put-start c = search needs
-
-part-put-end : tie.Need-part-put-end
-part-put-end c = search needs
 
 put-requires : tie.Need-put-requires
 put-requires c κs =
@@ -35,25 +17,20 @@ put-requires c κs =
     cells-room (start .args .w) (start .args .above) (now (start .args .screen)) (start .pre .0 .1) (start .pre .1)
     (placed .put-place .ensures)
 
-same-length : tie.Need-same-length
-same-length c = search needs
-
 returns : tie.Need-returns
 returns c =
     let placed : tie.After-put-place = search in let start : tie.Start = search in
     row-wrote _ _ _ (start .pre .0 .1) (placed .put-place .ensures) (c .before .before .put .ensures)
 
 pub put-row-spec : {M : Type 1} → statement M
-put-row-spec =
-    tie.close
-    (tie.spec
-    add-put-place
+put-row-spec = tie.close (tie.spec
+    (λ c. search needs)  -- add-put-place
     put-place-requires
-    mul-from
-    add-put
-    sub-put
-    part-put-start
-    part-put-end
+    (λ c. search needs)  -- mul-from
+    (λ c. search needs)  -- add-put
+    (λ c. search needs)  -- sub-put
+    (λ c. search needs)  -- part-put-start
+    (λ c. search needs)  -- part-put-end
     put-requires
-    same-length
+    (λ c. search needs)  -- same-length
     returns)

@@ -14,9 +14,6 @@ Inv-loop w first last screen out₀ at rows next₀ i₀ out next i = RowsSent w
 abbrev μ-loop : tie.MeasureT-loop
 μ-loop w first last screen out₀ at rows next₀ i₀ out next i = rows - i
 
-named-rows-requires : tie.Need-named-rows-requires Inv-loop μ-loop
-named-rows-requires c κs = search needs
-
 loop-holds : tie.Need-loop-holds Inv-loop μ-loop
 loop-holds c = sent-none (omega (arith, c .before .before .before .pre .1))
 
@@ -42,12 +39,6 @@ put-row-requires c κs =
           ),
     )
 
-add-i : tie.Need-add-i Inv-loop μ-loop
-add-i c = search needs
-
-loop-less : tie.Need-loop-less Inv-loop μ-loop
-loop-less c = omega arith
-
 loop-again : tie.Need-loop-again Inv-loop μ-loop
 loop-again c =
     let turn = c .before .before .before .before in
@@ -63,18 +54,9 @@ unfolding sentRows
 returns c = rw (c .before .before .named-rows .ensures) at (sent-all (c .before .loop .inv) (c .loop-test .left))
 
 pub put-rows-spec : {M : Type 1} → statement M
-put-rows-spec =
-    tie.close
-    (tie.spec
-    Inv-loop
-    μ-loop
-    named-rows-requires
-    loop-holds
-    sub-put-row
-    add-put-row
-    put-row-requires
-    add-i
-    loop-less
-    loop-again
-    same-length
-    returns)
+put-rows-spec = tie.close (tie.spec Inv-loop μ-loop
+    (λ c κs. search needs)  -- named-rows-requires
+    loop-holds sub-put-row add-put-row put-row-requires
+    (λ c. search needs)  -- add-i
+    (λ c. omega arith)  -- loop-less
+    loop-again same-length returns)

@@ -14,9 +14,6 @@ Inv-loop w first last rows size₀ i₀ size i = (i ≤ rows) × (size ≡ rowsS
 abbrev μ-loop : tie.MeasureT-loop
 μ-loop w first last rows size₀ i₀ size i = rows - i
 
-named-rows-requires : tie.Need-named-rows-requires Inv-loop μ-loop
-named-rows-requires c κs = search needs
-
 loop-holds : tie.Need-loop-holds Inv-loop μ-loop
 unfolding rowsSize
 loop-holds c = (omega arith, refl)
@@ -28,9 +25,6 @@ add-place-size c =
     record {
       fits = omega (arith, named-row (start .args .first) (start .args .last) (counted .named-rows .ensures) (c .loop-test .taken));
     }
-
-place-size-requires : tie.Need-place-size-requires Inv-loop μ-loop
-place-size-requires c κs = search needs
 
 -- What a turn adds, but for the cells.
 place-is-small : (c : tie.After-place-size Inv-loop μ-loop) → c .place-size .result ≤ 7
@@ -52,12 +46,6 @@ add-size-2 c =
     (counted .named-rows .ensures) (turn .loop .i) (turn .loop .inv .0) (start .pre .2)
     in record { fits = omega (arith, place-is-small c, so-far, turn .loop .inv .1) }
 
-add-i : tie.Need-add-i Inv-loop μ-loop
-add-i c = search needs
-
-loop-less : tie.Need-loop-less Inv-loop μ-loop
-loop-less c = omega arith
-
 loop-again : tie.Need-loop-again Inv-loop μ-loop
 loop-again c = (omega arith, size-more _ _ _ (c .before .before .loop .inv .1) (c .place-size .ensures))
 
@@ -68,18 +56,11 @@ returns c =
     rw (turn .before .named-rows .ensures) at all
 
 pub rows-size-spec : {M : Type 1} → statement M
-rows-size-spec =
-    tie.close
-    (tie.spec
-    Inv-loop
-    μ-loop
-    named-rows-requires
-    loop-holds
-    add-place-size
-    place-size-requires
-    add-size
-    add-size-2
-    add-i
-    loop-less
-    loop-again
-    returns)
+rows-size-spec = tie.close (tie.spec Inv-loop μ-loop
+    (λ c κs. search needs)  -- named-rows-requires
+    loop-holds add-place-size
+    (λ c κs. search needs)  -- place-size-requires
+    add-size add-size-2
+    (λ c. search needs)  -- add-i
+    (λ c. omega arith)  -- loop-less
+    loop-again returns)

@@ -5,15 +5,6 @@ use Rattle.window.proofs.Laws.Sequences.{place-short, named-small, sent
 use Rattle.window.proofs.sequences.sent_size.Statement.{statement}
 use Rattle.window.proofs.sequences.sent_size.Tie as tie
 
-rows-size-requires : tie.Need-rows-size-requires
-rows-size-requires c κs = search needs
-
-sent-column-requires : tie.Need-sent-column-requires
-sent-column-requires c κs = search needs
-
-place-size-requires : tie.Need-place-size-requires
-place-size-requires c κs = search needs
-
 add-result : tie.Need-add-result
 add-result c =
     let start = c .before .before .before in
@@ -25,6 +16,8 @@ returns : tie.Need-returns
 returns c = sent-sum _ _ _ _ _ (c .before .before .rows-size .ensures) (c .place-size .ensures) (c .before .sent-column .ensures)
 
 pub sent-size-spec : {M : Type 1} → statement M
-sent-size-spec =
-    tie.close
-    (tie.spec rows-size-requires sent-column-requires place-size-requires add-result returns)
+sent-size-spec = tie.close (tie.spec
+    (λ c κs. search needs)  -- rows-size-requires
+    (λ c κs. search needs)  -- sent-column-requires
+    (λ c κs. search needs)  -- place-size-requires
+    add-result returns)
