@@ -14,7 +14,8 @@ use Rattle.window.proofs.Laws.Sendable.{sendable-facts, sent-on}
 use Rattle.window.proofs.Laws.Machine.{feed-append, feed-place}
 use Rattle.window.proofs.Laws.SentRows.{feed-rows}
 
-module _ (H W first last row column : ℕ) (screen : List ℕ) (fit : sendable H W first last row column screen ≡ true) (printed : every printable screen ≡ true) where
+module _ (H W first last row column : ℕ) (screen : List ℕ)
+    (fit : sendable H W first last row column screen ≡ true) (printed : every printable screen ≡ true) where
   -- A terminal that showed some screen of this size, no sequence begun, shows it repainted, its cursor where it was sent.
   pub sent-shown : (m : Machine) → length (m .shows) ≡ H * W → m .reading ≡ cells
       → feed H W (sentScreen W first last row column screen) m

@@ -22,7 +22,8 @@ use Rattle.editor.specs.Plain.{Plain, Did, refused, done, SIZE, LONG, TEXT, SES
 use Rattle.editor.specs.Keys.{soundKey, pressed, fits, bounded, key}
 use Rattle.editor.specs.Bytes.{quarter}
 use Rattle.window.specs.Words.{Session}
-use Rattle.window.specs.Core.{Lent, Called, T, tabled, isSession, held, unopened, openedText, badByte, unlessBad, opened, turnedDown, shown, finished, keyed}
+use Rattle.window.specs.Core.{Lent, Called, T, tabled, isSession, held}
+use Rattle.window.specs.Core.{unopened, openedText, badByte, unlessBad, opened, turnedDown, shown, finished, keyed}
 use Rattle.window.specs.Refusals.{check, firstFailed, Passing, openingChecks, keyChecks}
 use Rattle.window.proofs.Laws.Order.{exactly, accepted-exactly}
 
@@ -203,4 +204,5 @@ module _ (s : Session) (k : Key) (b : Lent) where
   pub key-leaves : (keyed s k b .answer .code ≡ 0 → ⊥) → keyed s k b ≡ turnedDown s b (keyed s k b .answer .code)
   unfolding keyed key bounded decision
   key-leaves bad =
-      decision-leaves (tabled (s .frame .h) (s .frame .w) b) (isSession s (b .stores)) (soundKey k) (fits (T (b .stores)) quarter (pressed k (held s (b .stores)) .state)) (pressed k (held s (b .stores))) bad
+      let did = pressed k (held s (b .stores)) in
+      decision-leaves (tabled (s .frame .h) (s .frame .w) b) (isSession s (b .stores)) (soundKey k) (fits (T (b .stores)) quarter (did .state)) did bad

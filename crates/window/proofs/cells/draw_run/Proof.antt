@@ -53,7 +53,8 @@ put-run-requires c κs =
     let start : tie.Start = search in
     let low : tie.After-larger = search in
     let high : tie.After-smaller = search in
-    as-long (start .args .run .now) (start .pre .1) (low .larger .ensures) (high .smaller .ensures) (c .before .before .before .if1 .left) (c .before .before .cell-at .ensures)
+    let at : tie.After-cell-at = search in
+    as-long (start .args .run .now) (start .pre .1) (low .larger .ensures) (high .smaller .ensures) (at .before .if1 .left) (at .cell-at .ensures)
 
 returns-2 : tie.Need-returns-2
 returns-2 c =

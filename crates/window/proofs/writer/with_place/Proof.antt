@@ -39,7 +39,7 @@ use Rattle.gap.proofs.Laws.Writers.{wrote-length}
 use Rattle.window.specs.Sequences.{placed}
 use Rattle.window.proofs.Walks.Apart.{holding, slice, valueOf, called, apart}
 use Rattle.window.proofs.Walks.Held.{let-go, let-go-goes, number-quiet, handed-on, handed, handed-on-goes}
-use Rattle.window.proofs.Walks.Steps.{promise, count, idle, arg, stores, stored, gone, counted, calls, keeps}
+use Rattle.window.proofs.Walks.Steps.{promise, count, idle, passes-number, arg, stores, stored, gone, counted, calls, keeps}
 use Rattle.window.proofs.writer.Writer as T
 use Rattle.window.proofs.writer.Writer.Laws as T′
 use Rattle.window.proofs.sequences.put_place as put-place
@@ -107,7 +107,7 @@ module _ {M : Type 1} (𝓤 : URA M) (H : Heap 𝓤) (A : Atoms 𝓤) (W : Given
         enter ! C Λ code.function (valueOf (slice out) mark ∷ vint w64 row ∷ vint w64 column ∷ []) _ $
         alloc1 ! (λ l₀. alloc1 ! (λ l₁. alloc1 ! (λ l₂. alloc1 ! (λ l₃. alloc1 ! (λ l₄. alloc1 ! (λ l₅. alloc1 ! (λ l₆. alloc0 ! $ params1 ! $
         pass1 ! (init ! 10 refl (LL.lawful (T.the-type (called κ)) (T′.the-laws (called κ)) 𝓤 H A W .typed (holding out mark) _ is .0)) $
-        pass1 ! (init ! 8 refl (tt, record { fits = row-fits })) $ pass1 ! (init ! 6 refl (tt, record { fits = column-fits })) $ pass0 ! $
+        passes-number ! 8 refl row-fits $ passes-number ! 6 refl column-fits $ pass0 ! $
         -- [_6; …; _5; …; _4; …; _3 column; …; _2 row; …; _1 the writer; …; _0; …; the token; what the parameters own]
         -- _4 = _1.1
         stores ! (of-opd ! (load ! (from ! (fld ! refl (stop !))) (look-in ! 10 (sub ! 1 refl (whole !))))) 4 refl (tt, record { fits = mark-fits }) $

@@ -46,7 +46,7 @@ use Rattle.window.specs.Writing.{RowsIn, filled}
 use Rattle.window.proofs.Laws.Writer.{first-run-fits, second-run-fits, both-runs}
 use Rattle.window.proofs.Walks.Apart.{holding, slice, called}
 use Rattle.window.proofs.Walks.Held.{dropped-goes, number-quiet}
-use Rattle.window.proofs.Walks.Steps.{both-needed, both-said, promise, count, idle, arg, stores, stored, gone, counted, calls, keeps}
+use Rattle.window.proofs.Walks.Steps.{both-needed, both-said, promise, count, idle, passes-number, arg, stores, stored, gone, counted, calls, keeps}
 use Rattle.window.proofs.writer.Writer as T
 use Rattle.window.proofs.writer.Writer.Laws as T′
 use Rattle.window.proofs.writer.at_front as at-front
@@ -187,9 +187,9 @@ module _ {M : Type 1} (𝓤 : URA M) (H : Heap 𝓤) (A : Atoms 𝓤) (W : Given
         enter ! C Λ code.function (vint w64 w ∷ vint w64 first ∷ vint w64 last ∷ vint w64 row ∷ vint w64 column ∷ slice screen ∷ slice out ∷ []) _ $
         alloc1 ! (λ l₀. alloc1 ! (λ l₁. alloc1 ! (λ l₂. alloc1 ! (λ l₃. alloc1 ! (λ l₄. alloc1 ! (λ l₅.
         alloc1 ! (λ l₆. alloc1 ! (λ l₇. alloc1 ! (λ l₈. alloc1 ! (λ l₉. alloc1 ! (λ l₁₀. alloc1 ! (λ l₁₁. alloc0 ! $ params1 ! $
-        pass1 ! (init ! 20 refl (tt, record { fits = w-fits })) $ pass1 ! (init ! 18 refl (tt, record { fits = first-fits })) $
-        pass1 ! (init ! 16 refl (tt, record { fits = last-fits })) $ pass1 ! (init ! 14 refl (tt, record { fits = row-fits })) $
-        pass1 ! (init ! 12 refl (tt, record { fits = column-fits })) $ pass1 ! (init ! 10 refl (tt, (tt, (record { fits = screen-room .0 }, tt)))) $
+        passes-number ! 20 refl w-fits $ passes-number ! 18 refl first-fits $
+        passes-number ! 16 refl last-fits $ passes-number ! 14 refl row-fits $
+        passes-number ! 12 refl column-fits $ pass1 ! (init ! 10 refl (tt, (tt, (record { fits = screen-room .0 }, tt)))) $
         pass1 ! (init ! 8 refl (tt, (tt, (record { fits = room .0 }, tt)))) $ pass0 ! $
         -- [_11; …; _10; …; _9; …; _8; …; _7 out; …; _6 screen; …; _5 column; …; _4 row; …; _3 last; …; _2 first; …; _1 w; …; _0; …; the tokens;
         -- what the parameters own]
