@@ -1,7 +1,7 @@
 -- A simple terminal as a machine over bytes, and a bench with such a terminal at the end of a line. (02, M-100: a simple terminal.)
 use mathlib.Core.Path.{_≡_}
 use Prim.Native.Nat.{_≤_}
-use Rattle.window.specs.Words.{List, [], _∷_, _&&_, cond, ℕ, suc, _+_, _-_, _*_, eqb, leb, ltb, length, take, set, Key}
+use Rattle.window.specs.Words.{List, [], _∷_, Bool, _&&_, cond, ℕ, suc, _+_, _-_, _*_, eqb, leb, ltb, length, take, set, Key}
 use Rattle.gap.specs.Decimal.{digit, worth}
 use Rattle.gap.specs.Layout.{printable}
 use Rattle.window.specs.Window.{virtual, rowOf, columnOf}
@@ -57,14 +57,18 @@ goes H W row column m =
     cond ((leb 1 row && leb row H) && (leb 1 column && leb column W))
     (machine (m .shows) row column) (reads m lost)
 
+-- A digit behind those of n: none is a zero in front. (M-100: without leading zeros. DECISIONS E30.)
+abbrev pub digitMore : ℕ → ℕ → Bool
+digitMore n b = digit b && ltb 0 (n * 10 + worth b)
+
 -- One byte. (M-100: a terminal that obeys these sequences.)
 unfoldable pub step : ℕ → ℕ → Reading → ℕ → Machine → Machine
 step H W cells b m = cellRead W b m
 step H W escape b m = reads m (cond (eqb b 91) (rowNumber 0) lost)
 step H W (rowNumber row) b m =
-    reads m (cond (digit b) (rowNumber (row * 10 + worth b)) (cond (eqb b 59) (columnNumber row 0) lost))
+    reads m (cond (digitMore row b) (rowNumber (row * 10 + worth b)) (cond (eqb b 59) (columnNumber row 0) lost))
 step H W (columnNumber row column) b m =
-    cond (digit b) (reads m (columnNumber row (column * 10 + worth b)))
+    cond (digitMore column b) (reads m (columnNumber row (column * 10 + worth b)))
     (cond (eqb b 72) (goes H W row column m) (reads m lost))
 step H W lost b m = m
 

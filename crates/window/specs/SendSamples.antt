@@ -167,12 +167,14 @@ readSamples =
     -- At the last column the place stays: it neither wraps nor scrolls.
     ∷ read "wxyz" (Shows (seen "wxzdef" 1 3))
     ∷ read "^[2;3Hwx^[2;1Hy" (Shows (seen "abcyex" 2 2))
-    -- A byte that is not printed, places off the screen, a number that is left out, other sequences.
+    -- A byte that is not printed, places off the screen, a number that is left out or has a zero in front, other sequences.
     ∷ read "x$y" Loses
     ∷ read "^[3;1Hx" Loses
     ∷ read "^[1;4Hx" Loses
     ∷ read "^[0;1Hx" Loses
     ∷ read "^[2;Hx" Loses
+    ∷ read "^[02;1Hx" Loses
+    ∷ read "^[2;01Hx" Loses
     ∷ read "^[2Jx" Loses
     ∷ read "^[2;3Jx" Loses
     ∷ read "^cx" Loses

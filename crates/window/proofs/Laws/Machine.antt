@@ -2,22 +2,21 @@
 use mathlib.Core.Path.{_≡_, refl, sym, ap, ap₂, _∙_}
 use mathlib.Core.Bool.{true, false, cond}
 use mathlib.Core.List.{List, [], _∷_, _++_}
-use Prim.Native.Nat.{ℕ, suc, _+_, _-_, _*_, _≤_, _<_}
+use Prim.Native.Nat.{ℕ, suc, _+_, _-_, _*_, _/_, _%_, _≤_, _<_}
 use native.Mathlib.Omega.{arith}
 use lib.Dec.{eqb, leb, ltb}
 use lib.ListN.{length, set, length-set}
 use borrow.Author.Tests.{leb-true, lt-ltb, le-leb, lt-leb, ne-eqb}
 use Rattle.gap.specs.Sequence.{every, patch}
-use Rattle.gap.specs.Decimal.{digit, valueAfter, decimal}
+use Rattle.gap.specs.Decimal.{worth, decimal}
 use Rattle.gap.specs.Layout.{printable}
 use Rattle.gap.specs.Written.{Wrote}
 use Rattle.gap.proofs.Laws.Tests.{and-left, and-right, and-both, cond-true, cond-false}
-use Rattle.gap.proofs.Laws.Decimals.{decimal-digits}
+use Rattle.gap.proofs.Laws.Decimals.{by-tenths, decimal-digit, decimal-step}
 use Rattle.gap.proofs.Laws.Runs.{length-patch, patch-none, patch-one}
 use Rattle.gap.proofs.Laws.Writers.{then}
-use Rattle.gap.proofs.Theorems.Decimals.{value-decimal}
 use Rattle.window.specs.Sequences.{placed}
-use Rattle.window.specs.Machine.{Machine, cells, machine, rowNumber, columnNumber, reads, cellShown, goes, step, feed}
+use Rattle.window.specs.Machine.{Reading, cells, rowNumber, columnNumber, Machine, machine, reads, cellShown, goes, digitMore, step, feed}
 
 -- The column behind a run of cells: the one that it comes to, or the last.
 abbrev pub within : ℕ → ℕ → ℕ
@@ -35,46 +34,50 @@ module _ (H W : ℕ) where
   feed-append [] ys m = refl
   feed-append (b ∷ xs) ys m = feed-append xs ys (step H W (m .reading) b m)
 
-  -- Digits that are read behind those of n, for the row and for the column.
-  row-digits : (n : ℕ) (s : List ℕ) (m : Machine) → every digit s ≡ true
-      → feed H W s (reads m (rowNumber n)) ≡ reads m (rowNumber (valueAfter n s))
-  unfolding feed step every valueAfter
-  row-digits n [] m p = refl
-  row-digits n (b ∷ s) m p =
-      ap (λ r. feed H W s (reads m r)) (cond-true _ _ (and-left (digit b) _ p))
-      ∙ row-digits (n * 10 + (b - 48)) s m (and-right (digit b) _ p)
+  -- A number from 1 on is read digit by digit, where a digit more is read as one: for the row and for the column.
+  module _ (m : Machine) (at : ℕ → Reading)
+      (more : (n b : ℕ) → digitMore n b ≡ true → step H W (at n) b (reads m (at n)) ≡ reads m (at (n * 10 + worth b))) where
+    digit-read : (n last : ℕ) → last < 10 → 0 < n * 10 + last → feed H W ((48 + last) ∷ []) (reads m (at n)) ≡ reads m (at (n * 10 + last))
+    unfolding feed
+    digit-read n last small some =
+        let same : worth (48 + last) ≡ last = omega arith in
+        let is-digit = and-both (le-leb 48 (48 + last) (omega arith)) (le-leb (48 + last) 57 (omega arith)) in
+        more n (48 + last) (and-both is-digit (lt-ltb 0 (n * 10 + worth (48 + last)) (omega arith))) ∙ ap (λ k. reads m (at (n * 10 + k))) same
 
-  column-digits : (row n : ℕ) (s : List ℕ) (m : Machine) → every digit s ≡ true
-      → feed H W s (reads m (columnNumber row n)) ≡ reads m (columnNumber row (valueAfter n s))
-  unfolding feed step every valueAfter
-  column-digits row n [] m p = refl
-  column-digits row n (b ∷ s) m p =
-      ap (feed H W s) (cond-true _ _ (and-left (digit b) _ p))
-      ∙ column-digits row (n * 10 + (b - 48)) s m (and-right (digit b) _ p)
+    number-read : (n : ℕ) → 0 < n → feed H W (decimal n) (reads m (at 0)) ≡ reads m (at n)
+    number-read =
+        by-tenths (λ n. 0 < n → feed H W (decimal n) (reads m (at 0)) ≡ reads m (at n))
+        (λ n small some.
+        let alone : 0 * 10 + n ≡ n = omega arith in
+        rw (decimal-digit n small) (digit-read 0 n small (omega arith) ∙ ap (λ k. reads m (at k)) alone))
+        (λ n large tenth some.
+        let whole : n / 10 * 10 + n % 10 ≡ n = omega arith in
+        rw (decimal-step n large, feed-append, tenth (omega arith)) (digit-read (n / 10) (n % 10) (omega arith) (omega arith) ∙ ap (λ k. reads m (at k)) whole))
 
-  row-read : (n : ℕ) (m : Machine) → feed H W (decimal n) (reads m (rowNumber 0)) ≡ reads m (rowNumber n)
-  row-read n m = row-digits 0 (decimal n) m (decimal-digits n) ∙ ap (λ k. reads m (rowNumber k)) (value-decimal n)
+  row-read : (n : ℕ) (m : Machine) → 0 < n → feed H W (decimal n) (reads m (rowNumber 0)) ≡ reads m (rowNumber n)
+  unfolding step
+  row-read n m some = number-read m rowNumber (λ k b more. ap (reads m) (cond-true _ _ more)) n some
 
-  column-read : (row n : ℕ) (m : Machine) → feed H W (decimal n) (reads m (columnNumber row 0)) ≡ reads m (columnNumber row n)
-  column-read row n m =
-      column-digits row 0 (decimal n) m (decimal-digits n) ∙ ap (λ k. reads m (columnNumber row k)) (value-decimal n)
+  column-read : (row n : ℕ) (m : Machine) → 0 < n → feed H W (decimal n) (reads m (columnNumber row 0)) ≡ reads m (columnNumber row n)
+  unfolding step
+  column-read row n m some = number-read m (columnNumber row) (λ k b more. cond-true _ _ more) n some
 
   -- A place that is sent: the machine goes there, if it can.
-  feed-placed : (row column : ℕ) (m : Machine) → m .reading ≡ cells → feed H W (placed row column) m ≡ goes H W row column m
+  feed-placed : (row column : ℕ) (m : Machine) → 0 < row → 0 < column → m .reading ≡ cells → feed H W (placed row column) m ≡ goes H W row column m
   unfolding feed step placed
-  feed-placed row column m ready =
+  feed-placed row column m top left ready =
       let rest : List ℕ = 59 ∷ (decimal column ++ (72 ∷ [])) in
       ap (λ r. feed H W (placed row column) (reads m r)) ready
       ∙ (feed-append (decimal row) rest (reads m (rowNumber 0))
-      ∙ (ap (feed H W rest) (row-read row m)
+      ∙ (ap (feed H W rest) (row-read row m top)
       ∙ (feed-append (decimal column) (72 ∷ []) (reads m (columnNumber row 0))
-      ∙ ap (feed H W (72 ∷ [])) (column-read row column m))))
+      ∙ ap (feed H W (72 ∷ [])) (column-read row column m left))))
 
   -- A place that is on the screen.
   pub feed-place : (row column : ℕ) (m : Machine) → 1 ≤ row → row ≤ H → 1 ≤ column → column ≤ W → m .reading ≡ cells
       → feed H W (placed row column) m ≡ machine (m .shows) row column
   feed-place row column m top bottom left right ready =
-      feed-placed row column m ready
+      feed-placed row column m top left ready
       ∙ cond-true _ _ (and-both (and-both (le-leb 1 row top) (le-leb row H bottom)) (and-both (le-leb 1 column left) (le-leb column W right)))
 
 -- Two runs, the second behind the first, are one run.
