@@ -28,7 +28,7 @@ pub record Machine : Type 0 where
   pub column : ℕ
   pub reading : Reading
 
--- A machine with these cells at this place, no sequence begun.
+-- A machine with these cells at this spot, no sequence begun.
 abbrev pub machine : List ℕ → ℕ → ℕ → Machine
 machine s row column = record { shows = s; row = row; column = column; reading = cells }
 
@@ -36,7 +36,7 @@ machine s row column = record { shows = s; row = row; column = column; reading =
 abbrev pub reads : Machine → Reading → Machine
 reads m r = record { shows = m .shows; row = m .row; column = m .column; reading = r }
 
--- A byte goes into the cell at the place, and the next goes right of it; at the last column the place stays. (M-100: neither wraps nor
+-- A byte goes into the cell at the spot, and the next goes right of it; at the last column the spot stays. (M-100: neither wraps nor
 -- scrolls.)
 abbrev pub cellShown : ℕ → ℕ → Machine → Machine
 cellShown W b m =
@@ -51,7 +51,7 @@ cellShown W b m =
 abbrev pub cellRead : ℕ → ℕ → Machine → Machine
 cellRead W b m = cond (eqb b 27) (reads m escape) (cond (printable b) (cellShown W b m) (reads m lost))
 
--- At the end of a sequence it goes to the place, if the screen has it.
+-- At the end of a sequence it goes to the spot, if the screen has it.
 abbrev pub goes : ℕ → ℕ → ℕ → ℕ → Machine → Machine
 goes H W row column m =
     cond ((leb 1 row && leb row H) && (leb 1 column && leb column W))
@@ -91,8 +91,8 @@ bytesAfter o buffer =
     sending (o .session .frame .h) (o .session .frame .w) (o .answer .first) (o .answer .last) (o .answer .row) (o .answer .column)
     (o .lent .screen) buffer
 
-abbrev pub sent : Called → SendOutcome → Machine → Line
-sent o p m =
+abbrev pub received : Called → SendOutcome → Machine → Line
+received o p m =
     record {
       called = o;
       buffer = p .buffer;
@@ -101,11 +101,11 @@ sent o p m =
 
 -- Opening names every row, so that the terminal is given the full screen.
 unfoldable pub openedLine : ℕ → ℕ → ℕ → Lent → List ℕ → Machine → Line
-openedLine n H W b buffer m = let o = opened n H W b in sent o (bytesAfter o buffer) m
+openedLine n H W b buffer m = let o = opened n H W b in received o (bytesAfter o buffer) m
 
 -- A key is called with record and stores as they came back, and the buffer is lent again as it was left.
 unfoldable pub struckLine : Key → Line → Line
-struckLine k at = let o = keyed (at .called .session) k (at .called .lent) in sent o (bytesAfter o (at .buffer)) (at .terminal)
+struckLine k at = let o = keyed (at .called .session) k (at .called .lent) in received o (bytesAfter o (at .buffer)) (at .terminal)
 
 -- A list of keys.
 unfoldable pub typedLine : List Key → Line → Line
@@ -118,7 +118,7 @@ showing v =
     let d = virtual (v .plain) in
     machine (picture v) (rowOf d - v .frame .r) (sentColumn (v .frame .w) (columnOf d - v .frame .c))
 
--- A buffer in which there is always room: for a row's place 7 bytes, for the cursor's 9.
+-- A buffer in which there is always room: for a row's spot 7 bytes, for the cursor's 9.
 abbrev pub enough : ℕ → ℕ → ℕ
 enough H W = H * (W + 7) + 9
 

@@ -6,7 +6,7 @@ use Rattle.editor.specs.Plain.{Plain}
 use Rattle.window.specs.Core.{Lent, Called, tabled, isSession, held, opened, keyed}
 use Rattle.window.specs.Terminal.{Bench, given}
 use Rattle.window.specs.Sending.{SendOutcome, sending}
-use Rattle.window.specs.Machine.{Line, sent}
+use Rattle.window.specs.Machine.{Line, received}
 
 abbrev pub OpenPromise : ℕ → ℕ → ℕ → Lent → Called → Type 0
 OpenPromise n H W b o = o ≡ opened n H W b
@@ -42,4 +42,4 @@ pub data LineRun : List Key → Line → Line → Type 0 where
   at-rest : {at : Line} → LineRun [] at at
   strike : {k : Key} {ks : List Key} {at end : Line} (o : Called) (p : SendOutcome)
       → KeyPromise (at .called .session) k (at .called .lent) o → SendAfterPromise o (at .buffer) p
-      → LineRun ks (sent o p (at .terminal)) end → LineRun (k ∷ ks) at end
+      → LineRun ks (received o p (at .terminal)) end → LineRun (k ∷ ks) at end

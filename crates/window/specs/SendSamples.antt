@@ -164,10 +164,10 @@ abbrev pub readSamples : List ReadSample
 readSamples =
     read "" (Shows (seen "abcdef" 1 1))
     ∷ read "xy" (Shows (seen "xycdef" 1 3))
-    -- At the last column the place stays: it neither wraps nor scrolls.
+    -- At the last column the spot stays: it neither wraps nor scrolls.
     ∷ read "wxyz" (Shows (seen "wxzdef" 1 3))
     ∷ read "^[2;3Hwx^[2;1Hy" (Shows (seen "abcyex" 2 2))
-    -- A byte that is not printed, places off the screen, a number that is left out or has a zero in front, other sequences.
+    -- A byte that is not printed, spots off the screen, a number that is left out or has a zero in front, other sequences.
     ∷ read "x$y" Loses
     ∷ read "^[3;1Hx" Loses
     ∷ read "^[1;4Hx" Loses

@@ -25,7 +25,7 @@ ghost use Rattle.window.specs.Window.{virtualIn, visible};
 ghost use Rattle.window.specs.Painter.{above, paint, finishPaint, begun, Easel, Canvas, sheet, RunEnd, LineStart};
 ghost use Rattle.window.specs.Calls.{Texts, virtualHeld, Refreshed};
 
-// Where the run from place i on ends: at a newline, or at the end.
+// Where the run from index i on ends: at a newline, or at the end.
 fn run_end(t: &[u8], i: usize) -> usize
     requires { ⌜ i ≤ length (now t) ⌝ }
     ensures { λ e. ⌜ RunEnd (now (t .entry)) i e ⌝ }
@@ -81,7 +81,7 @@ fn line_start(t: &[u8], k: usize) -> usize
 }
 
 // A piece of the text, wherever the pen is: what lies above the window is only counted.
-fn feed(f: Frame, pen: Pen, t: &[u8], screen: &mut [u8]) -> Pen
+fn paint_piece(f: Frame, pen: Pen, t: &[u8], screen: &mut [u8]) -> Pen
     requires { ⌜ Easel f (length (now t)) (sheet pen (now screen)) ⌝ }
     ensures { λ q. ⌜ sheet q (now (screen .exit)) ≡ paint f (now (t .entry)) (sheet pen (now (screen .entry))) ⌝ }
 {
@@ -133,7 +133,7 @@ fn open_quotation(f: Frame, pen: Pen, screen: &mut [u8]) -> Pen
     ensures { λ q. ⌜ sheet q (now (screen .exit)) ≡ paint f (newline ∷ 62 ∷ []) (sheet pen (now (screen .entry))) ⌝ }
 {
     let mark = [10u8, 62u8];
-    feed(f, pen, &mark, screen)
+    paint_piece(f, pen, &mark, screen)
 }
 
 fn close_quotation(f: Frame, pen: Pen, screen: &mut [u8]) -> Pen
@@ -141,7 +141,7 @@ fn close_quotation(f: Frame, pen: Pen, screen: &mut [u8]) -> Pen
     ensures { λ q. ⌜ sheet q (now (screen .exit)) ≡ paint f (newline ∷ []) (sheet pen (now (screen .entry))) ⌝ }
 {
     let mark = [10u8];
-    feed(f, pen, &mark, screen)
+    paint_piece(f, pen, &mark, screen)
 }
 
 // The virtual text in MAIN, from the first byte on.
@@ -151,8 +151,8 @@ fn paint_main(f: Frame, text: &[u8], l: usize, r: usize, screen: &mut [u8]) -> P
     ensures { λ q. ⌜ sheet q (now (screen .exit)) ≡ paint f (content (ungap l r (now (text .entry)))) (begun (now (screen .entry))) ⌝ }
 {
     let back = text.len() - r;
-    let left = feed(f, fresh(), &text[..l], screen);
-    feed(f, left, &text[back..], screen)
+    let left = paint_piece(f, fresh(), &text[..l], screen);
+    paint_piece(f, left, &text[back..], screen)
 }
 
 // The virtual text in QUOTED: the quotation's two texts, q and s bytes long, stand between the document's.
@@ -173,12 +173,12 @@ fn paint_quoted(
 {
     let back = text.len() - r;
     let behind = quarter.len() - s;
-    let left = feed(f, fresh(), &text[..l], screen);
+    let left = paint_piece(f, fresh(), &text[..l], screen);
     let opened = open_quotation(f, left, screen);
-    let before = feed(f, opened, &quarter[..q], screen);
-    let after = feed(f, before, &quarter[behind..], screen);
+    let before = paint_piece(f, opened, &quarter[..q], screen);
+    let after = paint_piece(f, before, &quarter[behind..], screen);
     let closed = close_quotation(f, after, screen);
-    feed(f, closed, &text[back..], screen)
+    paint_piece(f, closed, &text[back..], screen)
 }
 
 // The rows that a pen has named.

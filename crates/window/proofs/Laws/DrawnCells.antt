@@ -18,28 +18,28 @@ use Rattle.gap.proofs.Laws.Sequence.{length-part}
 use Rattle.gap.proofs.Laws.Runs.{Copied, copied-none, copied-more, copied-all}
 use Rattle.window.specs.Words.{Frame}
 use Rattle.window.specs.declared.Pen.{Pen}
-use Rattle.window.specs.Painter.{Sheet, sheet, above, over, across, spotOf, cellOf, OnRow, Easel}
+use Rattle.window.specs.Painter.{Sheet, sheet, above, over, across, nextCell, cellOf, OnRow, Easel}
 use Rattle.window.specs.Painter.{put, along, penBelow, rowBelow, lineEnd, paint}
 use Rattle.window.proofs.Laws.Paint.{InRow, in-row, row-fits, blanks}
 use Rattle.window.proofs.Laws.PaintedRun.{Run, lowest, highest, paint-run-none, paint-run}
 
 -- The first i cells are those of the run; `same` tells whether they were so before, and the others decide the rest.
-pub record Written (run old : List ℕ) (s : List ℕ) (same : Bool) (i : ℕ) : Type 0 where
+pub record CellsWritten (run old : List ℕ) (s : List ℕ) (same : Bool) (i : ℕ) : Type 0 where
   pub whole : length run ≡ length old
   pub copied : Copied run old i s
   pub rest : sameBytes old run ≡ (same && sameBytes (drop i old) (drop i run))
 
-pub written-none : (run old : List ℕ) → length run ≡ length old → Written run old old true 0
+pub written-none : (run old : List ℕ) → length run ≡ length old → CellsWritten run old old true 0
 written-none run old e = record { whole = e; copied = copied-none run old (omega arith); rest = refl }
 
-module _ {run old s : List ℕ} {same : Bool} {i : ℕ} (so-far : Written run old s same i) where
+module _ {run old s : List ℕ} {same : Bool} {i : ℕ} (so-far : CellsWritten run old s same i) where
   untouched : i < length run → getD s i 0 ≡ getD old i 0
   untouched more =
       let within : i < length old = omega (arith, so-far .whole) in
       let size : length (take i run) ≡ i = length-take-le i run (so-far .copied .within) in
       rw (so-far .copied .bytes, drop-cons old i 0) (getD-at (take i run) _ _ 0 i size)
 
-  pub written-more : {b : ℕ} → i < length run → b ≡ getD run i 0 → Written run old (set s i b) (same && eqb (getD s i 0) b) (i + 1)
+  pub written-more : {b : ℕ} → i < length run → b ≡ getD run i 0 → CellsWritten run old (set s i b) (same && eqb (getD s i 0) b) (i + 1)
   unfolding sameBytes
   written-more more e = record {
     whole = so-far .whole;
@@ -58,7 +58,7 @@ module _ {run old s : List ℕ} {same : Bool} {i : ℕ} (so-far : Written run ol
 
 -- Blanks are a run of 32s.
 abbrev pub Blanked : List ℕ → List ℕ → Bool → ℕ → Type 0
-Blanked old s same i = Written (replicate (length old) 32) old s same i
+Blanked old s same i = CellsWritten (replicate (length old) 32) old s same i
 
 pub blanked-none : (old : List ℕ) → Blanked old old true 0
 blanked-none old = written-none (replicate (length old) 32) old (length-replicate {A = ℕ} (length old) 32)
@@ -86,29 +86,29 @@ on-screen {f} {n} {p} easel tests =
       small = rw (easel .long) (mul-le-mul (easel .rows) (easel .columns));
     }
 
--- The bytes from place a to place b, as code lends them, and the store with others in their place.
-abbrev lent : ℕ → ℕ → List ℕ → List ℕ
-lent a b s = midOf a (b - a) s
+-- The bytes from index a to index b, as code lends them, and the store with others in their place.
+abbrev partLent : ℕ → ℕ → List ℕ → List ℕ
+partLent a b s = midOf a (b - a) s
 
-abbrev given : ℕ → ℕ → List ℕ → List ℕ → List ℕ
-given a b s t = putMid a (b - a) s t
+abbrev partBack : ℕ → ℕ → List ℕ → List ℕ → List ℕ
+partBack a b s t = putMid a (b - a) s t
 
-lent-size : (a b : ℕ) (s : List ℕ) → a ≤ b → b ≤ length s → length (lent a b s) ≡ b - a
+part-size : (a b : ℕ) (s : List ℕ) → a ≤ b → b ≤ length s → length (partLent a b s) ≡ b - a
 unfolding part
-lent-size a b s ordered fits = length-part a (b - a) s (omega arith)
+part-size a b s ordered fits = length-part a (b - a) s (omega arith)
 
 -- A part of the screen is lent, compared and written over: that is put.
 put-back : (pen : Pen) (screen run back : List ℕ) (at stop : ℕ) (changed : Bool) → stop - at ≡ length run → back ≡ run
-    → changed ≡ not (sameBytes (lent at stop screen) run)
+    → changed ≡ not (sameBytes (partLent at stop screen) run)
     → sheet (record { y = pen .y; x = pen .x; changed = pen .changed || changed; first = pen .first; last = pen .last })
-    (given at stop screen back)
+    (partBack at stop screen back)
     ≡ put at run (sheet pen screen)
 unfolding part patch
 put-back pen screen run back at stop changed size e mark = rw (e, mark, size)
 
 -- In a row of the window a line ends with blanks, and the pen goes below.
 pub row-end : (f : Frame) (p : Sheet) → InRow f (p .pen .y) (p .screen)
-    → lineEnd f p ≡ rowBelow f (put (spotOf f (p .pen)) (blanks f p) p)
+    → lineEnd f p ≡ rowBelow f (put (nextCell f (p .pen)) (blanks f p) p)
 unfolding lineEnd
 row-end f p row =
     cond-false _ _ (lt-leb (f .r + f .h) (p .pen .y) (row .bottom)) ∙ cond-false _ _ (le-ltb (p .pen .y) (f .r) (row .top))
@@ -123,7 +123,7 @@ cell-small {f} {pen} row =
 cells-fit : {f : Frame} {n : ℕ} {pen : Pen} {screen : List ℕ} → Easel f n (sheet pen screen) × Inside f (sheet pen screen)
     → {at low high : ℕ} → at ≡ cellOf f pen low → f .c ≤ low → low ≤ high → high ≤ f .c + f .w
     → (at + (high - low) ≤ length screen) × (length screen ≤ 16384)
-cells-fit asked place left ordered right =
+cells-fit asked cell left ordered right =
     let row = on-screen (asked .0) (asked .1) in (omega (arith, row .fits), row .small)
 
 -- The end of a row begins at the pen's column or at an edge of the window w columns wide.
@@ -144,37 +144,37 @@ at-edge {c} {w} {x} {low} from =
 
 -- Its cells are lent and come back blank.
 module _ {f : Frame} {pen : Pen} {screen : List ℕ} (asked : Easel f 1 (sheet pen screen) × Inside f (sheet pen screen))
-    {low at : ℕ} (edge : AtEdge (f .c) (f .w) (pen .x) low) (place : at ≡ cellOf f pen low) where
+    {low at : ℕ} (edge : AtEdge (f .c) (f .w) (pen .x) low) (cell : at ≡ cellOf f pen low) where
   abbrev rest : List ℕ
-  rest = lent at (at + (f .c + f .w - low)) screen
+  rest = partLent at (at + (f .c + f .w - low)) screen
 
   pub rest-fits : (at + (f .c + f .w - low) ≤ length screen) × (length screen ≤ 16384)
-  rest-fits = cells-fit asked place (edge .left) (edge .right) (omega arith)
+  rest-fits = cells-fit asked cell (edge .left) (edge .right) (omega arith)
 
   pub row-ended : {q : Pen} {back : List ℕ} {changed : Bool} → back ≡ replicate (length rest) 32
       → changed ≡ not (sameBytes rest (replicate (length rest) 32)) → q ≡ penBelow f pen (pen .changed || changed)
-      → sheet q (given at (at + (f .c + f .w - low)) screen back) ≡ lineEnd f (sheet pen screen)
+      → sheet q (partBack at (at + (f .c + f .w - low)) screen back) ≡ lineEnd f (sheet pen screen)
   row-ended {q} {back} {changed} blank mark below =
       let stop = at + (f .c + f .w - low) in
       let all : stop - at ≡ f .c + f .w - low = omega arith in
-      let size : length rest ≡ f .c + f .w - low = lent-size at stop screen (omega arith) (rest-fits .0) ∙ all in
+      let size : length rest ≡ f .c + f .w - low = part-size at stop screen (omega arith) (rest-fits .0) ∙ all in
       let as-many = all ∙ sym size ∙ sym (length-replicate {A = ℕ} (length rest) 32) in
-      let spot : at ≡ spotOf f pen = place ∙ ap (λ n. (pen .y - f .r) * f .w + n) (edge .across) in
+      let next : at ≡ nextCell f pen = cell ∙ ap (λ n. (pen .y - f .r) * f .w + n) (edge .across) in
       rw below
       (ap (rowBelow f) (put-back pen screen (replicate (length rest) 32) back at stop changed as-many blank mark)
-      ∙ ap₂ (λ a n. rowBelow f (put a (replicate n 32) (sheet pen screen))) spot (size ∙ edge .rest)
+      ∙ ap₂ (λ a n. rowBelow f (put a (replicate n 32) (sheet pen screen))) next (size ∙ edge .rest)
       ∙ sym (row-end f (sheet pen screen) (on-screen (asked .0) (asked .1) .inside)))
 
 -- Of a run of n bytes at column x, the columns from low to high are in the window w columns wide: where they are, and their bytes.
-pub record Seen (c w x n low high : ℕ) : Type 0 where
+pub record SeenColumns (c w x n low high : ℕ) : Type 0 where
   pub left : c ≤ low
   pub right : high ≤ c + w
   pub ordered : low - x ≤ high - x
   pub bytes : high - x ≤ n
   pub size : high - x - (low - x) ≡ high - low
 
-all-seen : {c w x n low high : ℕ} → low ≡ max c x → high ≡ min (c + w) (x + n) → low < high → Seen c w x n low high
-all-seen {c} {w} {x} {n} {low} {high} from to some =
+all-columns-seen : {c w x n low high : ℕ} → low ≡ max c x → high ≡ min (c + w) (x + n) → low < high → SeenColumns c w x n low high
+all-columns-seen {c} {w} {x} {n} {low} {high} from to some =
     let start : x ≤ low = omega arith in
     record {
       left = omega arith;
@@ -196,36 +196,36 @@ module _ {f : Frame} {pen : Pen} {screen : List ℕ} (run : List ℕ) (asked : E
   run-unseen unbroken none moved =
       rw moved (sym (paint-run-none f run (sheet pen screen) (on-screen (asked .0) (asked .1) .inside) unbroken (omega arith)))
 
-  pub seen : low < high → Seen (f .c) (f .w) (pen .x) (length run) low high
-  seen some = all-seen from to some
+  pub seen-columns : low < high → SeenColumns (f .c) (f .w) (pen .x) (length run) low high
+  seen-columns some = all-columns-seen from to some
 
   -- Their cells, and their bytes.
-  module _ {at : ℕ} (some : low < high) (place : at ≡ cellOf f pen low) where
+  module _ {at : ℕ} (some : low < high) (cell : at ≡ cellOf f pen low) where
     abbrev cells : List ℕ
-    cells = lent at (at + (high - low)) screen
+    cells = partLent at (at + (high - low)) screen
 
     abbrev bytes : List ℕ
-    bytes = lent (low - pen .x) (high - pen .x) run
+    bytes = partLent (low - pen .x) (high - pen .x) run
 
     pub fits : (at + (high - low) ≤ length screen) × (length screen ≤ 16384)
-    fits = cells-fit asked place (seen some .left) (omega arith) (seen some .right)
+    fits = cells-fit asked cell (seen-columns some .left) (omega arith) (seen-columns some .right)
 
     size : length bytes ≡ high - low
-    size = lent-size (low - pen .x) (high - pen .x) run (seen some .ordered) (seen some .bytes) ∙ seen some .size
+    size = part-size (low - pen .x) (high - pen .x) run (seen-columns some .ordered) (seen-columns some .bytes) ∙ seen-columns some .size
 
     pub as-long : length bytes ≡ length cells
-    as-long = size ∙ sym (lent-size at (at + (high - low)) screen (omega arith) (fits .0) ∙ omega arith)
+    as-long = size ∙ sym (part-size at (at + (high - low)) screen (omega arith) (fits .0) ∙ omega arith)
 
     pub run-drawn : {q : Pen} {back : List ℕ} {changed : Bool} → Run run → back ≡ bytes → changed ≡ not (sameBytes cells bytes)
         → q ≡ record { y = pen .y; x = pen .x + length run; changed = pen .changed || changed; first = pen .first; last = pen .last }
-        → sheet q (given at (at + (high - low)) screen back) ≡ paint f run (sheet pen screen)
+        → sheet q (partBack at (at + (high - low)) screen back) ≡ paint f run (sheet pen screen)
     unfolding part
     run-drawn {q} {back} {changed} unbroken e mark moved =
         let all : at + (high - low) - at ≡ length bytes = omega (arith, size) in
         let drawn : ℕ → List ℕ → Sheet = λ a s. along (length run) (put a s (sheet pen screen)) in
         rw moved
         (ap (along (length run)) (put-back pen screen bytes back at (at + (high - low)) changed all e mark)
-        ∙ ap₂ (λ a k. drawn a (part (low - pen .x) k run)) place (seen some .size)
+        ∙ ap₂ (λ a k. drawn a (part (low - pen .x) k run)) cell (seen-columns some .size)
         ∙ ap₂ (λ l h. drawn (cellOf f pen l) (part (l - pen .x) (h - l) run)) from to
         ∙ sym (paint-run f run (sheet pen screen) (on-screen (asked .0) (asked .1) .inside) unbroken (omega arith)))
 

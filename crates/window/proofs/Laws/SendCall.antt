@@ -16,11 +16,11 @@ use Rattle.gap.proofs.Laws.Tests.{cond-true, cond-false}
 use Rattle.editor.specs.Plain.{SIZE, TEXT}
 use Rattle.window.specs.declared.Sending.{Sending}
 use Rattle.window.specs.Core.{rowsAndColumns}
-use Rattle.window.specs.Sequences.{placed, namedRows, sentRows, sentColumn, sentScreen}
+use Rattle.window.specs.Sequences.{sentSpot, rowCount, sentRows, sentColumn, sentScreen}
 use Rattle.window.specs.Sending.{SendOutcome, ROOM, rowsOn, cursorOn, sendable, badCell, sentInto, unlessBadCell, sending}
 use Rattle.window.specs.Writing.{RowsIn, sentSize, outcomeOf}
 use Rattle.window.proofs.Laws.Sendable.{Sendable, sendable-facts, sent-on}
-use Rattle.window.proofs.Laws.Sequences.{cursor-place-short, named-most, rows-most, sent-size}
+use Rattle.window.proofs.Laws.Sequences.{cursor-spot-short, named-most, rows-most, sent-size}
 
 -- ---- SIZE
 
@@ -50,14 +50,14 @@ module _ (H W first last row column : ℕ) (screen : List ℕ) (e : sendable H W
         inside = omega (arith, facts .long, mul-le-mul-right W (facts .inside));
       }
 
-  -- A buffer that is always large enough: for a row its W cells and 7 bytes for its place, and 9 for the cursor's.
+  -- A buffer that is always large enough: for a row its W cells and 7 bytes for its spot, and 9 for the cursor's.
   pub enough-room : length (sentScreen W first last row column screen) ≤ H * (W + 7) + 9
   unfolding sentSize
   enough-room =
       let told = facts in
-      let few : namedRows first last ≤ H = omega (arith, named-most first last) in
-      let rows = rows-most W first last (told .ordered) (omega arith) refl (namedRows first last) (omega arith) in
-      let place = cursor-place-short row (sentColumn W column) (omega arith) (omega (arith, sent-on W column (told .wide))) in
+      let few : rowCount first last ≤ H = omega (arith, named-most first last) in
+      let rows = rows-most W first last (told .ordered) (omega arith) refl (rowCount first last) (omega arith) in
+      let spot = cursor-spot-short row (sentColumn W column) (omega arith) (omega (arith, sent-on W column (told .wide))) in
       omega (arith, sent-size row column rows-in, mul-le-mul-right (W + 7) few)
 
 -- ---- ROOM
@@ -77,14 +77,14 @@ module _ (W first last row column : ℕ) (screen buffer : List ℕ) (rows : Rows
       ap (λ b. outcomeOf b buffer) e ∙ sym (cond-false _ _ (lt-leb (length run) (length buffer) (omega (arith, counted-so))))
 
   module _ (fits : size ≤ length buffer) {sent : ℕ} (column-so : sent ≡ sentColumn W column) where
-    same-run : run ≡ sentRows W first last screen ++ placed row sent
+    same-run : run ≡ sentRows W first last screen ++ sentSpot row sent
     unfolding sentScreen
     same-run = rw column-so
 
-    pub room-enough : length (sentRows W first last screen ++ placed row sent) ≤ length buffer
+    pub room-enough : length (sentRows W first last screen ++ sentSpot row sent) ≤ length buffer
     room-enough = rw same-run at (rw counted-so at fits)
 
-    pub all-written : {count : ℕ} {new : List ℕ} → Wrote 0 (sentRows W first last screen ++ placed row sent) buffer count new
+    pub all-written : {count : ℕ} {new : List ℕ} → Wrote 0 (sentRows W first last screen ++ sentSpot row sent) buffer count new
         → outcomeOf (record { code = 0; place = 0; count = count }) new ≡ sentInto run buffer
     all-written {count} {new} wrote =
         let counts : count ≡ length run = wrote .place ∙ omega (arith, ap length same-run) in

@@ -18,7 +18,7 @@ use Rattle.window.specs.Core.{Lent, Called, T, lentOf, openedText, opene
 use Rattle.window.specs.Terminal.{View, openingView, repaint, looked, viewed, picture, Good, recordOf, storesWith}
 use Rattle.window.specs.Sequences.{sentColumn, sentScreen}
 use Rattle.window.specs.Sending.{SendOutcome, rowsOn, sendable, unsent, sending}
-use Rattle.window.specs.Machine.{Machine, cells, machine, feed, Line, bytesAfter, sent, openedLine, struckLine, typedLine, showing, enough}
+use Rattle.window.specs.Machine.{Machine, cells, machine, feed, Line, bytesAfter, received, openedLine, struckLine, typedLine, showing, enough}
 use Rattle.window.specs.Machine.{OnLine, Ready}
 use Rattle.window.proofs.Laws.Window.{length-window}
 use Rattle.window.proofs.Laws.Rows.{repainted, repaint-all}
@@ -110,14 +110,14 @@ module _ (s : Session) (k : Key) (b : Lent) (accepts : keyed s k b .answer .code
     -- One key on any session, from a terminal that showed the screen as it was: it shows the new screen, with the cursor as reported.
     pub key-shown : (m : Machine) → m .shows ≡ b .screen → m .reading ≡ cells
         → let o = keyed s k b in
-        sent o (bytesAfter o buffer) m .terminal ≡ machine (o .lent .screen) (o .answer .row) (sentColumn (s .frame .w) (o .answer .column))
+        received o (bytesAfter o buffer) m .terminal ≡ machine (o .lent .screen) (o .answer .row) (sentColumn (s .frame .w) (o .answer .column))
     unfolding finished shown policy
     key-shown m same ready =
         let next = looked before outcome in
         let long : length (b .screen) ≡ s .frame .h * s .frame .w = tabled-facts _ _ b (key-accepted s k b .0 accepts .0) .long in
         let rows = changed-on (s .frame .h) (s .frame .w) (b .screen) (picture next) in
         subst⁻¹
-        (λ o. sent o (bytesAfter o buffer) m .terminal ≡ machine (o .lent .screen) (o .answer .row) (sentColumn (s .frame .w) (o .answer .column)))
+        (λ o. received o (bytesAfter o buffer) m .terminal ≡ machine (o .lent .screen) (o .answer .row) (sentColumn (s .frame .w) (o .answer .column)))
         key-outcome
         (view-fed (T (b .stores)) next next-good _ _ rows buffer room m (ap length same ∙ long) ready
         ∙ ap (λ x. machine x (cursorRow next) (sentColumn (s .frame .w) (cursorColumn next)))
@@ -141,7 +141,7 @@ module _ (n H W : ℕ) (b : Lent) (buffer : List ℕ) where
 -- ---- Keys on a line
 
 abbrev lineAfter : Called → List ℕ → Machine → Line
-lineAfter o buffer m = sent o (bytesAfter o buffer) m
+lineAfter o buffer m = received o (bytesAfter o buffer) m
 
 -- One key, from a good view.
 module _ (size : ℕ) (k : Key) (v : View) (good : Good size v) where

@@ -16,7 +16,7 @@ use Rattle.window.specs.Promise.{OpenPromise, KeyPromise, SendPromise, S
 use Rattle.window.specs.Promise.{BenchRun, at-end, press, LineRun, at-rest, strike}
 use Rattle.window.specs.Rows.{Shortest}
 use Rattle.window.specs.Terminal.{Bench, given, openingView, struck, typed, viewed, picture}
-use Rattle.window.specs.Machine.{Machine, Line, sent, bytesAfter, openedLine, struckLine, typedLine, showing, Ready}
+use Rattle.window.specs.Machine.{Machine, Line, received, bytesAfter, openedLine, struckLine, typedLine, showing, Ready}
 use Rattle.window.proofs.Theorems.Refusals.{opening-leaves, key-leaves}
 use Rattle.window.proofs.Theorems.Sessions.{key-follows}
 use Rattle.window.proofs.Theorems.DemandThree.{demand-three, key-names}
@@ -76,18 +76,18 @@ unfolding typedLine struckLine
 run-line at-rest = refl
 run-line (strike {ks = ks} {at = at} o p key-promise promise run) =
     run-line run
-    ∙ (ap (λ x. typedLine ks (sent o x (at .terminal))) promise
-    ∙ ap (λ x. typedLine ks (sent x (bytesAfter x (at .buffer)) (at .terminal))) key-promise)
+    ∙ (ap (λ x. typedLine ks (received o x (at .terminal))) promise
+    ∙ ap (λ x. typedLine ks (received x (bytesAfter x (at .buffer)) (at .terminal))) key-promise)
 
 module _ (n H W : ℕ) (b : Lent) (o : Called) (promise : OpenPromise n H W b o) (accepts : o .answer .code ≡ 0) where
   pub line-shows : (buffer : List ℕ) (p : SendOutcome) (m : Machine) → SendAfterPromise o buffer p → Ready H W buffer m
-      → (ks : List Key) (end : Line) → LineRun ks (sent o p m) end
+      → (ks : List Key) (end : Line) → LineRun ks (received o p m) end
       → (end .terminal ≡ showing (viewed (T (b .stores)) ks (openingView n H W b)))
       × (viewed (T (b .stores)) ks (openingView n H W b) .plain ≡ keys (T (b .stores)) quarter ks (opening (take n (b .stores .text))))
   unfolding openedLine
   line-shows buffer p m send ready ks end run =
       let good = ap (λ x. x .answer .code) (sym promise) ∙ accepts in
-      let start : sent o p m ≡ openedLine n H W b buffer m =
-      ap (λ x. sent o x m) send ∙ ap (λ x. sent x (bytesAfter x buffer) m) promise in
+      let start : received o p m ≡ openedLine n H W b buffer m =
+      ap (λ x. received o x m) send ∙ ap (λ x. received x (bytesAfter x buffer) m) promise in
       let shown = demand-three-line n H W b good buffer m ready ks in
       (ap (λ x. x .terminal) (run-line run ∙ ap (typedLine ks) start) ∙ shown .0, shown .1)

@@ -6,11 +6,11 @@ use Rattle.gap.specs.Strings.{bytes}
 use Rattle.gap.specs.Nearest.{nearest}
 use Rattle.gap.specs.Decimal.{digitsIn, decimal}
 use Rattle.window.specs.Window.{joined}
-use Rattle.window.specs.Sequences.{placed, sentRow, sentRows, sentScreen}
+use Rattle.window.specs.Sequences.{sentSpot, sentRow, sentRows, sentScreen}
 use Rattle.window.specs.Sending.{sendable, sending}
 use Rattle.window.specs.Machine.{step, feed}
 use Rattle.window.specs.SendSamples.{allSent, sendSamples, allRead, readSamples}
 
 pub samples-right : (allSent sendSamples && allRead readSamples) ≡ true
-unfolding sameBytes part patch counted bytes nearest digitsIn decimal joined placed sentRow sentRows sentScreen sendable sending step feed allSent allRead
+unfolding sameBytes part patch counted bytes nearest digitsIn decimal joined sentSpot sentRow sentRows sentScreen sendable sending step feed allSent allRead
 samples-right = refl

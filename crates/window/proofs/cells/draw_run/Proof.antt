@@ -1,7 +1,7 @@
 -- `cells::draw_run` meets its contract: of the run nothing is seen, or what is seen is lent, compared and written over in one go.
 use native.Mathlib.Omega.{arith}
 use borrow.Author.Needs.{needs}
-use Rattle.window.proofs.Laws.DrawnCells.{seen, fits, as-long, run-unseen, run-drawn}
+use Rattle.window.proofs.Laws.DrawnCells.{seen-columns, fits, as-long, run-unseen, run-drawn}
 use Rattle.window.proofs.cells.draw_run.Statement.{statement}
 use Rattle.window.proofs.cells.draw_run.Tie as tie
 
@@ -31,14 +31,14 @@ sub-put-run-4 c =
     let start : tie.Start = search in
     let low : tie.After-larger = search in
     let high : tie.After-smaller = search in
-    seen (start .args .run .now) (start .pre .1) (low .larger .ensures) (high .smaller .ensures) (c .before .before .if1 .left) .ordered
+    seen-columns (start .args .run .now) (start .pre .1) (low .larger .ensures) (high .smaller .ensures) (c .before .before .if1 .left) .ordered
 
 part-put-run-start-2 : tie.Need-part-put-run-start-2
 part-put-run-start-2 c =
     let start : tie.Start = search in
     let low : tie.After-larger = search in
     let high : tie.After-smaller = search in
-    let columns = seen (start .args .run .now) (start .pre .1) (low .larger .ensures) (high .smaller .ensures) (c .before .before .if1 .left) in
+    let columns = seen-columns (start .args .run .now) (start .pre .1) (low .larger .ensures) (high .smaller .ensures) (c .before .before .if1 .left) in
     omega (arith, columns .ordered, columns .bytes)
 
 part-put-run-end-2 : tie.Need-part-put-run-end-2
@@ -46,7 +46,7 @@ part-put-run-end-2 c =
     let start : tie.Start = search in
     let low : tie.After-larger = search in
     let high : tie.After-smaller = search in
-    seen (start .args .run .now) (start .pre .1) (low .larger .ensures) (high .smaller .ensures) (c .before .before .if1 .left) .bytes
+    seen-columns (start .args .run .now) (start .pre .1) (low .larger .ensures) (high .smaller .ensures) (c .before .before .if1 .left) .bytes
 
 put-run-requires : tie.Need-put-run-requires
 put-run-requires c κs =

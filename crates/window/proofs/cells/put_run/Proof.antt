@@ -3,12 +3,12 @@ use mathlib.Core.Path.{refl}
 use Prim.Native.Nat.{_-_}
 use native.Mathlib.Omega.{arith}
 use lib.ListN.{length}
-use Rattle.window.proofs.Laws.DrawnCells.{Written, written-none, written-more, written-all}
+use Rattle.window.proofs.Laws.DrawnCells.{CellsWritten, written-none, written-more, written-all}
 use Rattle.window.proofs.cells.put_run.Statement.{statement}
 use Rattle.window.proofs.cells.put_run.Tie as tie
 
 abbrev Inv-loop : tie.InvT-loop
-Inv-loop cells₀ run same₀ i₀ cells same i = Written run cells₀ cells same i
+Inv-loop cells₀ run same₀ i₀ cells same i = CellsWritten run cells₀ cells same i
 
 abbrev μ-loop : tie.MeasureT-loop
 μ-loop cells₀ run same₀ i₀ cells same i = length run - i

@@ -1,4 +1,4 @@
--- `painter::run_end` meets its contract: there is no newline from place i up to the place reached.
+-- `painter::run_end` meets its contract: there is no newline from index i up to the one reached.
 use Prim.Native.Nat.{_-_}
 use native.Mathlib.Omega.{arith}
 use lib.ListN.{length}

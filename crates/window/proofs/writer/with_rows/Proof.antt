@@ -1,5 +1,5 @@
 -- `with_rows` keeps its promise, by a walk of its MIR: the writer's buffer is lent to `put_rows`, comes back, and goes into the writer that is returned,
--- beside the place that `put_rows` answered. That writer has the buffer's lifetime, so nothing is said of the buffer's last bytes.
+-- beside the index that `put_rows` answered. That writer has the buffer's lifetime, so nothing is said of the buffer's last bytes.
 use mathlib.Core.Path.{refl}
 use mathlib.Core.List.{List, [], _∷_}
 use Prim.Native.Nat.{ℕ, _+_, _≤_, _<_, _^_}

@@ -1,13 +1,13 @@
--- `painter::feed` meets its contract: what lies above the window is counted, and the rest is drawn.
+-- `painter::paint_piece` meets its contract: what lies above the window is counted, and the rest is drawn.
 use mathlib.Core.Path.{_∙_}
 use native.Mathlib.Omega.{arith}
 use borrow.Author.Needs.{needs}
 use borrow.Author.Tests.{le-ltb}
 use Rattle.window.specs.Painter.{sheet}
 use Rattle.window.proofs.Laws.Spots.{newlines-within}
-use Rattle.window.proofs.Laws.Pieces.{fed-above, FirstLine, fed-lines, first-line, fed-asked, fed-painted}
-use Rattle.window.proofs.painter.feed.Statement.{statement}
-use Rattle.window.proofs.painter.feed.Tie as tie
+use Rattle.window.proofs.Laws.Pieces.{piece-above, FirstLine, piece-lines, first-line, piece-asked, piece-painted}
+use Rattle.window.proofs.painter.paint_piece.Statement.{statement}
+use Rattle.window.proofs.painter.paint_piece.Tie as tie
 
 draw-requires : tie.Need-draw-requires
 draw-requires c κs = (c .before .before .before .before .pre, le-ltb _ _ (c .before .if1 .taken))
@@ -23,13 +23,13 @@ since-newline-requires c κs = omega (arith, c .before .before .before .before .
 returns-2 : tie.Need-returns-2
 returns-2 c =
     let args = c .before .before .before .before .before .before .args in
-    fed-above (args .f) (args .t .now) (sheet (args .pen) (args .screen .now)) (c .before .before .count-newlines .ensures)
+    piece-above (args .f) (args .t .now) (sheet (args .pen) (args .screen .now)) (c .before .before .count-newlines .ensures)
     (c .since-newline .ensures) (c .before .if2 .taken)
 
 line-start-requires : tie.Need-line-start-requires
 line-start-requires c κs =
     let args = c .before .before .before .before .before .args in
-    fed-lines (args .f) (args .t .now) (sheet (args .pen) (args .screen .now)) (c .before .count-newlines .ensures)
+    piece-lines (args .f) (args .t .now) (sheet (args .pen) (args .screen .now)) (c .before .count-newlines .ensures)
     (c .before .before .if1 .left) (c .if2 .left)
 
 -- The window's first line starts where the drawing does.
@@ -41,13 +41,13 @@ starts c =
     first-line _ _ _ (counted .count-newlines .ensures) (counted .before .if1 .left) (c .before .if2 .left) (c .line-start .ensures)
 
 draw-requires-2 : tie.Need-draw-requires-2
-draw-requires-2 c κs = let from = c .before .before in fed-asked (starts from) (from .before .before .before .before .before .before .pre)
+draw-requires-2 c κs = let from = c .before .before in piece-asked (starts from) (from .before .before .before .before .before .before .pre)
 
 returns-3 : tie.Need-returns-3
-returns-3 c = c .before .before .draw2 .ensures ∙ fed-painted (starts (c .before .before .before .before .before))
+returns-3 c = c .before .before .draw2 .ensures ∙ piece-painted (starts (c .before .before .before .before .before))
 
-pub feed-spec : {M : Type 1} → statement M
-feed-spec = tie.close (tie.spec draw-requires
+pub paint-piece-spec : {M : Type 1} → statement M
+paint-piece-spec = tie.close (tie.spec draw-requires
     (λ c. search needs)  -- same-length
     (λ c. c .before .before .draw .ensures)  -- returns
     (λ c κs. search needs)  -- count-newlines-requires

@@ -1,10 +1,10 @@
--- `place_size` counts the digits of two machine words, at most 20 each, and four bytes more.
+-- `spot_size` counts the digits of two machine words, at most 20 each, and four bytes more.
 use native.Mathlib.Omega.{arith}
 use borrow.Author.Needs.{needs}
 use Rattle.gap.proofs.Laws.Decimals.{decimal-short}
-use Rattle.window.proofs.Laws.Sequences.{length-placed}
-use Rattle.window.proofs.sequences.place_size.Statement.{statement}
-use Rattle.window.proofs.sequences.place_size.Tie as tie
+use Rattle.window.proofs.Laws.Sequences.{length-spot}
+use Rattle.window.proofs.sequences.spot_size.Statement.{statement}
+use Rattle.window.proofs.sequences.spot_size.Tie as tie
 
 add-result : tie.Need-add-result
 add-result c = record { fits = omega (arith, decimal-short (c .before .args .row) (search needs)) }
@@ -17,10 +17,10 @@ add-result-2 c =
 returns : tie.Need-returns
 returns c =
     let start = c .before .before in
-    omega (arith, length-placed (start .args .row) (start .args .column))
+    omega (arith, length-spot (start .args .row) (start .args .column))
 
-pub place-size-spec : {M : Type 1} → statement M
-place-size-spec = tie.close (tie.spec
+pub spot-size-spec : {M : Type 1} → statement M
+spot-size-spec = tie.close (tie.spec
     (λ c κs. search needs)  -- decimal-size-requires
     add-result
     (λ c κs. search needs)  -- decimal-size-requires-2
