@@ -1,5 +1,6 @@
 -- Refusals: their numbers and names, and the order in which they are given. (01, refusal numbers and their order.)
-use Rattle.editor.specs.Words.{List, [], _∷_, Bool, cond, ℕ}
+use mathlib.Core.Path.{_≡_}
+use Rattle.editor.specs.Words.{List, [], _∷_, Bool, true, cond, ℕ}
 
 -- 01, the table of refusals; 7 is M-100's.
 abbrev pub SIZE : ℕ
@@ -31,3 +32,11 @@ pub data Check : Type 0 where
 abbrev pub unless : {A : Type 0} → List Check → (ℕ → A) → A → A
 unless [] refuse accept = accept
 unless (check n passes ∷ checks) refuse accept = cond passes (unless checks refuse accept) (refuse n)
+
+-- The number that a list of checks gives, 0 where every check passes; and that every check passes.
+unfoldable pub firstFailed : List Check → ℕ
+firstFailed checks = unless checks (λ n. n) 0
+
+abbrev pub Passing : List Check → Type 0
+Passing [] = Unit {0}
+Passing (check n passes ∷ checks) = (passes ≡ true) × Passing checks

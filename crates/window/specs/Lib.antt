@@ -8,9 +8,10 @@ pub mod Calls
 pub mod Host
 pub mod Terminal
 pub mod Sequences
-pub mod Painting
-pub mod Promise
+pub mod Sending
+pub mod Refusals
 pub mod Machine
+pub mod Promise
 pub mod Writing
 pub mod Table
-pub mod PaintSamples
+pub mod SendSamples

@@ -30,8 +30,20 @@ over f pen = leb (f .r + f .h) (pen .y)
 abbrev pub across : Frame → Pen → ℕ
 across f pen = min (pen .x - f .c) (f .w)
 
-abbrev pub spotOf : Frame → Pen → ℕ
-spotOf f pen = (pen .y - f .r) * f .w + across f pen
+abbrev pub nextCell : Frame → Pen → ℕ
+nextCell f pen = (pen .y - f .r) * f .w + across f pen
+
+-- The cell of a column, in the pen's row; what is asked of the column: it is in the window, or its right edge.
+abbrev pub cellOf : Frame → Pen → ℕ → ℕ
+cellOf f pen column = (pen .y - f .r) * f .w + (column - f .c)
+
+pub record OnRow (f : Frame) (pen : Pen) (column : ℕ) : Type 0 where
+  pub top : f .r ≤ pen .y
+  pub bottom : pen .y < f .r + f .h
+  pub rows : f .h ≤ 64
+  pub columns : f .w ≤ 256
+  pub left : f .c ≤ column
+  pub right : column ≤ f .c + f .w
 
 -- A run of cells is written; a cell that was another one marks the row.
 abbrev pub put : ℕ → List ℕ → Sheet → Sheet
@@ -62,7 +74,7 @@ inWindow f pen = not (above f pen) && (leb (f .c) (pen .x) && ltb (pen .x) (f .c
 
 unfoldable pub letter : Frame → ℕ → Sheet → Sheet
 letter f b p =
-    cond (over f (p .pen)) p (along 1 (cond (inWindow f (p .pen)) (put (spotOf f (p .pen)) (b ∷ []) p) p))
+    cond (over f (p .pen)) p (along 1 (cond (inWindow f (p .pen)) (put (nextCell f (p .pen)) (b ∷ []) p) p))
 
 -- The pen below the end of a line in the window; a marked row is named.
 abbrev pub penBelow : Frame → Pen → Bool → Pen
@@ -91,7 +103,7 @@ unfoldable pub lineEnd : Frame → Sheet → Sheet
 lineEnd f p =
     cond (over f (p .pen)) p
     (cond (above f (p .pen)) (lineBelow p)
-    (rowBelow f (put (spotOf f (p .pen)) (replicate (f .w - across f (p .pen)) 32) p)))
+    (rowBelow f (put (nextCell f (p .pen)) (replicate (f .w - across f (p .pen)) 32) p)))
 
 -- A text, and the end of all: the line ends, and so do the empty ones below it.
 unfoldable pub paint : Frame → List ℕ → Sheet → Sheet
@@ -121,13 +133,13 @@ pub record Canvas (f : Frame) (n : ℕ) (screen : List ℕ) : Type 0 where
 abbrev pub sheet : Pen → List ℕ → Sheet
 sheet pen screen = record { pen = pen; screen = screen }
 
--- Place at is the start of a line, with k newlines behind it.
+-- Index at is the start of a line, with k newlines behind it.
 pub record LineStart (t : List ℕ) (k at : ℕ) : Type 0 where
   pub within : at ≤ length t
   pub lines : newlines (take at t) + k ≡ newlines t
   pub start : (x : ℕ) → sinceAfter x (take at t) ≡ 0
 
--- Where a run without newline that starts at place i ends.
+-- Where a run without newline that starts at index i ends.
 pub record RunEnd (t : List ℕ) (i e : ℕ) : Type 0 where
   pub low : i ≤ e
   pub high : e ≤ length t

@@ -1,4 +1,7 @@
 -- Named rows. (01, the window: named rows.)
+use mathlib.Core.Path.{_≡_}
+use mathlib.Core.Logic.{_↔_, _≢_}
+use Prim.Native.Nat.{_≤_}
 use Rattle.window.specs.Words.{List, Bool, not, ℕ, suc, _-_, _*_, Search, Reached, Nowhere}
 use Rattle.gap.specs.Sequence.{sameBytes, part}
 use Rattle.gap.specs.Nearest.{nearest}
@@ -26,3 +29,21 @@ fromBelow H Nowhere = 0
 
 unfoldable pub lastRow : ℕ → ℕ → List ℕ → List ℕ → ℕ
 lastRow H W old new = fromBelow H (nearest (λ i. changed W old new (suc H - i)) H 1)
+
+-- ---- What the rows that a call names are: demand 3 says it so
+
+-- Every row of a screen of H rows that differs is one of the rows a to b.
+abbrev pub Covers : ℕ → ℕ → List ℕ → List ℕ → ℕ → ℕ → Type 0
+Covers H W old new a b = (i : ℕ) → 1 ≤ i → i ≤ H → screenRow W i old ≢ screenRow W i new → (a ≤ i) × (i ≤ b)
+
+-- 01, named rows: the shortest run of rows that covers every changed row.
+pub record Shortest (H W : ℕ) (old new : List ℕ) (first last : ℕ) : Type 0 where
+  -- No row is named exactly when nothing changed.
+  pub no-first : (first ≡ 0) ↔ (old ≡ new)
+  pub no-last : (last ≡ 0) ↔ (old ≡ new)
+  -- Where something changed, the named rows are a run of the screen's rows,
+  pub rows : old ≢ new → (1 ≤ first) × (first ≤ last) × (last ≤ H)
+  -- every changed row is among them,
+  pub covers : Covers H W old new first last
+  -- and each run that covers every changed row begins no later and ends no earlier.
+  pub shortest : old ≢ new → (a b : ℕ) → Covers H W old new a b → (a ≤ first) × (last ≤ b)

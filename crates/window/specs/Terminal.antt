@@ -1,11 +1,14 @@
 -- The terminal of the third demand, and the plain document that it must show.
-use Rattle.window.specs.Words.{List, [], _∷_, _++_, cond, ℕ, suc, _-_, _*_, eqb, take, drop, Key, Frame}
+use mathlib.Core.Path.{_≡_}
+use Prim.Native.Nat.{_≤_}
+use Rattle.window.specs.Words.{List, [], _∷_, _++_, true, cond, ℕ, suc, _-_, _*_, eqb, take, drop, Key, Frame, Session}
 use Rattle.gap.specs.Sequence.{part}
 use Rattle.editor.specs.Plain.{Plain, opening, Outcome, refused, done}
 use Rattle.editor.specs.Keys.{key}
-use Rattle.editor.specs.Bytes.{quarter}
-use Rattle.window.specs.Window.{virtual, window, policy}
-use Rattle.window.specs.Core.{Lent, Called, start, opened, keyed}
+use Rattle.editor.specs.Bytes.{quarter, storesOf}
+use Rattle.editor.proofs.Laws.Sound.{SoundPlain}
+use Rattle.window.specs.Window.{virtual, window, visible, policy}
+use Rattle.window.specs.Core.{Lent, Called, rowsAndColumns, sessionOf, start, opened, keyed}
 
 -- ---- On bytes
 
@@ -61,3 +64,26 @@ viewed T (k ∷ ks) v = viewed T ks (looked v (key T quarter k (v .plain)))
 -- What a terminal should show of it.
 abbrev pub picture : View → List ℕ
 picture v = window (v .frame) (virtual (v .plain))
+
+-- ---- A bench that shows a view
+
+-- A good view: a sound plain state for stores of length size, and a tabled window that shows its cursor.
+pub record Good (size : ℕ) (v : View) : Type 0 where
+  pub low : 1 ≤ size
+  pub high : size ≤ 65536
+  pub sound : SoundPlain size quarter (v .plain)
+  pub tabled : rowsAndColumns (v .frame .h) (v .frame .w) ≡ true
+  pub seen : visible (v .frame) (virtual (v .plain)) ≡ true
+
+-- A view as record and stores, with any screen.
+abbrev pub recordOf : View → Session
+recordOf v = sessionOf (v .plain) (v .frame)
+
+abbrev pub storesWith : ℕ → View → List ℕ → Lent
+storesWith size v screen = record { stores = storesOf size quarter (v .plain); screen = screen }
+
+-- Record, stores and terminal all hold the view: the terminal shows its window.
+pub record Showing (size : ℕ) (v : View) (at : Bench) : Type 0 where
+  pub session : at .called .session ≡ recordOf v
+  pub lent : at .called .lent ≡ storesWith size v (picture v)
+  pub terminal : at .terminal ≡ picture v

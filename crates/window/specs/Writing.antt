@@ -3,10 +3,10 @@ use Prim.Native.Nat.{_≤_}
 use denote.Ref.{now, at-last}
 use Rattle.window.specs.Words.{List, ℕ, zero, suc, _+_, _*_, length}
 use Rattle.gap.specs.Sequence.{patch}
-use Rattle.window.specs.declared.Painting.{Painting}
+use Rattle.window.specs.declared.Sending.{Sending}
 use Rattle.window.specs.declared.writer.Writer.{Writer}
-use Rattle.window.specs.Sequences.{placed, namedRows, sentColumn}
-use Rattle.window.specs.Painting.{PaintOutcome}
+use Rattle.window.specs.Sequences.{sentSpot, rowCount, sentColumn}
+use Rattle.window.specs.Sending.{SendOutcome}
 
 -- The named rows, in their order or none, are rows of a screen that is no larger than tabled.
 pub record RowsIn (W first last : ℕ) (screen : List ℕ) : Type 0 where
@@ -18,15 +18,15 @@ pub record RowsIn (W first last : ℕ) (screen : List ℕ) : Type 0 where
 -- How long the bytes are, without a look at the screen: n rows from row i on, and all of them.
 unfoldable pub rowsSize : ℕ → ℕ → ℕ → ℕ
 rowsSize W zero i = 0
-rowsSize W (suc n) i = (length (placed i 1) + W) + rowsSize W n (suc i)
+rowsSize W (suc n) i = (length (sentSpot i 1) + W) + rowsSize W n (suc i)
 
-unfoldable pub paintedSize : ℕ → ℕ → ℕ → ℕ → ℕ → ℕ
-paintedSize W first last row column = rowsSize W (namedRows first last) first + length (placed row (sentColumn W column))
+unfoldable pub sentSize : ℕ → ℕ → ℕ → ℕ → ℕ → ℕ
+sentSize W first last row column = rowsSize W (rowCount first last) first + length (sentSpot row (sentColumn W column))
 
 -- A writer with a run behind what it holds: the same buffer, and the mark behind the run.
 abbrev pub filled : Writer → List ℕ → Writer
 filled w run = record { out = at-last (w .out) (patch (w .at) run (now (w .out))); at = w .at + length run }
 
 -- The answer and the buffer as one value.
-abbrev pub outcomeOf : Painting → List ℕ → PaintOutcome
+abbrev pub outcomeOf : Sending → List ℕ → SendOutcome
 outcomeOf a buffer = record { code = a .code; place = a .place; count = a .count; buffer = buffer }

@@ -1,13 +1,14 @@
 // The host's boundary: the calls for programs in C or Rust, with record, key and answer as numbers. Nothing is asked of the host
 // beforehand.
 use crate::Frame;
-use crate::Painting;
 use crate::Reply;
+use crate::Sending;
 use crate::Session;
 use crate::calls::open;
 use crate::calls::press;
 use crate::calls::tabled_stores;
-use crate::terminal::paint;
+use crate::sender::Update;
+use crate::sender::send;
 use editor::Action;
 use editor::Key;
 use editor::Lengths;
@@ -20,7 +21,7 @@ use gap::Direction;
 ghost use mathlib.Core.Path.{_≡_};
 ghost use Rattle.window.specs.Calls.{lent};
 ghost use Rattle.window.specs.Core.{refusal};
-ghost use Rattle.window.specs.Painting.{painting};
+ghost use Rattle.window.specs.Sending.{sending};
 ghost use Rattle.window.specs.Writing.{outcomeOf};
 ghost use Rattle.window.specs.Host.{modeOf, sessionFrom, insertFrom, directionFrom, actionFrom, placeFrom, functionFrom};
 ghost use Rattle.window.specs.Host.{findFrom, keyFrom, modeNumber, bit, recordFrom, numbersOf, saidOf, given, hostOpened, hostKeyed};
@@ -357,9 +358,15 @@ pub extern "C" fn chidukwore_paint(
     column: usize,
     screen: &[u8],
     buffer: &mut [u8],
-) -> Painting
+) -> Sending
     ensures { λ a. ⌜ outcomeOf a (now (buffer .exit))
-        ≡ painting rows columns first last row column (now (screen .entry)) (now (buffer .entry)) ⌝ }
+        ≡ sending rows columns first last row column (now (screen .entry)) (now (buffer .entry)) ⌝ }
 {
-    paint(rows, columns, first, last, row, column, screen, buffer)
+    let update = Update {
+        first: first,
+        last: last,
+        row: row,
+        column: column,
+    };
+    send(rows, columns, update, screen, buffer)
 }

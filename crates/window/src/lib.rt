@@ -1,10 +1,11 @@
 // The window layer: the screen, the core's two calls, and the bytes for a terminal.
 pub mod calls;
+pub mod cells;
 pub mod cursor;
 pub mod host;
 pub mod painter;
+pub mod sender;
 pub mod sequences;
-pub mod terminal;
 pub mod writer;
 
 use editor::Lengths;
@@ -64,7 +65,7 @@ pub struct Reply {
 
 // What the routine for terminals answers: 0 or a refusal, the place of TEXT, and how many bytes it wrote.
 #[repr(C)]
-pub struct Painting {
+pub struct Sending {
     pub code: usize,
     pub place: usize,
     pub count: usize,

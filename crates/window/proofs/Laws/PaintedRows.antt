@@ -68,7 +68,7 @@ named-once test H a b c d (run x) (run y) =
     let s : ¬ (d < b) = λ h. clash (x .last-passes) (y .below b h (x .high)) in
     (omega arith, omega arith)
 
--- A screen that is the new one up to place k, where the next cells of the new one are put.
+-- A screen that is the new one up to index k, where the next cells of the new one are put.
 module _ (k : ℕ) (next old new : List ℕ) (fits : k + length next ≤ length new) (same : next ≡ part k (length next) new) where
   front : length (take k new) ≡ k
   front = length-take-le k new (omega arith)

@@ -11,7 +11,7 @@ use Rattle.gap.proofs.Laws.Writers.{then, wrote-length}
 use Rattle.window.specs.declared.writer.Writer.{Writer}
 use Rattle.window.specs.Writing.{filled}
 
--- The buffer as it was left and the place that was answered make the filled writer.
+-- The buffer as it was left and the index that was answered make the filled writer.
 pub wrote-filled : (w : Writer) (run : List ℕ) {next : ℕ} {new : List ℕ} → Wrote (w .at) run (now (w .out)) next new
     → record { out = at-last (w .out) new; at = next } ≡ filled w run
 wrote-filled w run wrote i = record { out = at-last (w .out) (wrote .bytes i); at = wrote .place i }

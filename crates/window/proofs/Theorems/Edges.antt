@@ -8,7 +8,8 @@ use Rattle.gap.specs.Nearest.{nearest, distance}
 use Rattle.gap.specs.Lines.{newlines, sinceAfter, lines}
 use Rattle.gap.specs.Layout.{gapped, paired, ungap, unpair, soundGap, soundPair}
 use Rattle.editor.specs.Places.{lineBeginning, lineEnding, word, documentEnd, isAt}
-use Rattle.editor.specs.Keys.{soundKey, inserted, carried, function, recalled, onSide, quoted, withPattern, searched, found, withReplacement, exchanged, substituted, replaced, pressed, fits, bounded, key}
+use Rattle.editor.specs.Keys.{soundKey, inserted, carried, function, recalled, onSide, quoted, withPattern, searched, found}
+use Rattle.editor.specs.Keys.{withReplacement, exchanged, substituted, replaced, pressed, fits, bounded, key}
 use Rattle.editor.specs.Bytes.{quarter, sized, plainOf, lengthsOf, storesOf, editorOk}
 use Rattle.window.specs.Window.{virtualIn, rowCells, joined, window, visible, policy}
 use Rattle.window.specs.Rows.{firstRow, lastRow}
@@ -16,5 +17,9 @@ use Rattle.window.specs.Core.{tabled, isSession, openedText, opened, sho
 use Rattle.window.specs.Table.{markedAfter, pressing, moving, outcome, holds, allHold, right, edges}
 
 pub edges-right : right edges ≡ true
-unfolding every sameBytes begins part zeros counted move delete times passed splice nearest distance newlines sinceAfter lines gapped paired ungap unpair soundGap soundPair lineBeginning lineEnding word documentEnd isAt soundKey inserted removed carried function recalled onSide quoted withPattern searched found withReplacement exchanged substituted replaced pressed fits bounded key quarter sized plainOf lengthsOf storesOf editorOk virtualIn rowCells joined window visible policy firstRow lastRow tabled isSession openedText opened shown finished keyed bytes markedAfter pressing moving outcome holds allHold right
+unfolding every sameBytes begins part zeros counted move delete times passed splice nearest distance newlines sinceAfter lines gapped paired
+    ungap unpair soundGap soundPair lineBeginning lineEnding word documentEnd isAt soundKey inserted removed carried function recalled
+    onSide quoted withPattern searched found withReplacement exchanged substituted replaced pressed fits bounded key quarter sized plainOf
+    lengthsOf storesOf editorOk virtualIn rowCells joined window visible policy firstRow lastRow tabled isSession openedText opened shown
+    finished keyed bytes markedAfter pressing moving outcome holds allHold right
 edges-right = refl
