@@ -34,8 +34,8 @@ slice-aggregate-play-5 c = search needs
 
 play-requires : tie.Need-play-requires
 play-requires c κs =
-    let area = c .before .before .before .before .before .screen-size .ensures in
-    let start = c .before .before .before .before .before .before .before in
+    let after-screen-size : tie.After-screen-size = search in let start : tie.Start = search in
+    let area = after-screen-size .screen-size .ensures in
     let store = length-take-le _ _ (start .pre .1) in (
       start .pre .0,
       (

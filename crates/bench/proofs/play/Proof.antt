@@ -27,45 +27,75 @@ opening-requires : tie.Need-opening-requires Inv-loop μ-loop
 opening-requires c κs = search needs
 
 write-front-requires : tie.Need-write-front-requires Inv-loop μ-loop
-write-front-requires c κs = printed-inside (c .before .before .before .before .before .before .before .before .before .before .before .opening .ensures)
+write-front-requires c κs =
+    let after-opening : tie.After-opening Inv-loop μ-loop = search in
+    printed-inside (after-opening .opening .ensures)
 
 loop-holds : tie.Need-loop-holds Inv-loop μ-loop
-loop-holds c = (opening-inside _ _ _ _ _ _ _ (c .before .before .before .before .before .before .before .before .before .before .before .before .opening .ensures) (c .before .before .before .before .before .before .before .before .before .before .before .before .before .before .before .before .before .before .before .before .before .before .before .before .pre .0), omega (arith, c .before .before .before .before .before .before .before .before .before .before .before .before .opening .kept .1 .1 .1 .1 .1 .1 .0, c .before .before .before .before .before .before .before .before .before .before .before .before .before .before .before .before .before .before .before .before .before .before .before .before .pre .1 .1), refl, refl, refl, refl, refl)
+loop-holds c =
+    let after-opening : tie.After-opening Inv-loop μ-loop = search in let start : tie.Start Inv-loop μ-loop = search in (
+      opening-inside _ _ _ _ _ _ _ (after-opening .opening .ensures) (start .pre .0),
+      omega (arith, after-opening .opening .kept .1 .1 .1 .1 .1 .1 .0, start .pre .1 .1),
+      refl,
+      refl,
+      refl,
+      refl,
+      refl,
+    )
 
 next-turn-requires : tie.Need-next-turn-requires Inv-loop μ-loop
-next-turn-requires c κs = (c .before .before .before .before .before .before .loop .inv .0, c .before .before .before .before .before .before .loop .inv .1)
+next-turn-requires c κs =
+    let at-loop : tie.At-loop Inv-loop μ-loop = search in
+    (at-loop .loop .inv .0, at-loop .loop .inv .1)
 
 write-front-requires-2 : tie.Need-write-front-requires-2 Inv-loop μ-loop
-write-front-requires-2 c κs = printed-inside (c .before .before .before .before .before .before .before .before .before .before .before .next-turn .ensures .0)
+write-front-requires-2 c κs =
+    let after-next-turn : tie.After-next-turn Inv-loop μ-loop = search in
+    printed-inside (after-next-turn .next-turn .ensures .0)
 
 loop-less : tie.Need-loop-less Inv-loop μ-loop
-loop-less c = one-fewer _ _ _ _ (c .before .before .before .before .before .before .before .before .before .before .before .before .before .before .before .before .before .before .loop-test .taken) (c .before .before .before .before .before .before .before .before .before .before .before .before .next-turn .ensures .1)
+loop-less c =
+    let after-next-turn : tie.After-next-turn Inv-loop μ-loop = search in
+    let in-loop : tie.In-loop Inv-loop μ-loop = search in
+    one-fewer _ _ _ _ (in-loop .loop-test .taken) (after-next-turn .next-turn .ensures .1)
 
 loop-again : tie.Need-loop-again Inv-loop μ-loop
-loop-again c = (
-  c .before .before .before .before .before .before .before .before .before .before .before .before .next-turn .ensures .1 .inside,
-  omega (arith, c .before .before .before .before .before .before .before .before .before .before .before .before .next-turn .kept .1 .1 .1 .1 .1 .1 .0, c .before .before .before .before .before .before .before .before .before .before .before .before .before .before .before .before .before .before .before .loop .inv .1),
-  c .before .before .before .before .before .before .before .before .before .before .before .before .next-turn .kept .1 .1 .0 ∙ c .before .before .before .before .before .before .before .before .before .before .before .before .before .before .before .before .before .before .before .loop .inv .2,
-  c .before .before .before .before .before .before .before .before .before .before .before .before .next-turn .kept .1 .1 .1 .0 ∙ c .before .before .before .before .before .before .before .before .before .before .before .before .before .before .before .before .before .before .before .loop .inv .3,
-  c .before .before .before .before .before .before .before .before .before .before .before .before .next-turn .kept .1 .1 .1 .1 .0 ∙ c .before .before .before .before .before .before .before .before .before .before .before .before .before .before .before .before .before .before .before .loop .inv .4,
-  c .before .before .before .before .before .before .before .before .before .before .before .before .next-turn .kept .1 .1 .1 .1 .1 .0 ∙ c .before .before .before .before .before .before .before .before .before .before .before .before .before .before .before .before .before .before .before .loop .inv .5,
-  c .before .before .before .before .before .before .before .before .before .before .before .before .next-turn .kept .1 .1 .1 .1 .1 .1 .0 ∙ c .before .before .before .before .before .before .before .before .before .before .before .before .before .before .before .before .before .before .before .loop .inv .6,
-)
+loop-again c =
+    let after-next-turn : tie.After-next-turn Inv-loop μ-loop = search in
+    let at-loop : tie.At-loop Inv-loop μ-loop = search in (
+      after-next-turn .next-turn .ensures .1 .inside,
+      omega (arith, after-next-turn .next-turn .kept .1 .1 .1 .1 .1 .1 .0, at-loop .loop .inv .1),
+      after-next-turn .next-turn .kept .1 .1 .0 ∙ at-loop .loop .inv .2,
+      after-next-turn .next-turn .kept .1 .1 .1 .0 ∙ at-loop .loop .inv .3,
+      after-next-turn .next-turn .kept .1 .1 .1 .1 .0 ∙ at-loop .loop .inv .4,
+      after-next-turn .next-turn .kept .1 .1 .1 .1 .1 .0 ∙ at-loop .loop .inv .5,
+      after-next-turn .next-turn .kept .1 .1 .1 .1 .1 .1 .0 ∙ at-loop .loop .inv .6,
+    )
 
 same-length : tie.Need-same-length Inv-loop μ-loop
-same-length c = c .before .loop .inv .2 ∙ c .before .before .before .before .before .before .before .before .before .before .before .before .before .before .opening .kept .1 .1 .0
+same-length c =
+    let after-opening : tie.After-opening Inv-loop μ-loop = search in
+    c .before .loop .inv .2 ∙ after-opening .opening .kept .1 .1 .0
 
 same-length-2 : tie.Need-same-length-2 Inv-loop μ-loop
-same-length-2 c = c .before .loop .inv .3 ∙ c .before .before .before .before .before .before .before .before .before .before .before .before .before .before .opening .kept .1 .1 .1 .0
+same-length-2 c =
+    let after-opening : tie.After-opening Inv-loop μ-loop = search in
+    c .before .loop .inv .3 ∙ after-opening .opening .kept .1 .1 .1 .0
 
 same-length-3 : tie.Need-same-length-3 Inv-loop μ-loop
-same-length-3 c = c .before .loop .inv .4 ∙ c .before .before .before .before .before .before .before .before .before .before .before .before .before .before .opening .kept .1 .1 .1 .1 .0
+same-length-3 c =
+    let after-opening : tie.After-opening Inv-loop μ-loop = search in
+    c .before .loop .inv .4 ∙ after-opening .opening .kept .1 .1 .1 .1 .0
 
 same-length-4 : tie.Need-same-length-4 Inv-loop μ-loop
-same-length-4 c = c .before .loop .inv .5 ∙ c .before .before .before .before .before .before .before .before .before .before .before .before .before .before .opening .kept .1 .1 .1 .1 .1 .0
+same-length-4 c =
+    let after-opening : tie.After-opening Inv-loop μ-loop = search in
+    c .before .loop .inv .5 ∙ after-opening .opening .kept .1 .1 .1 .1 .1 .0
 
 same-length-5 : tie.Need-same-length-5 Inv-loop μ-loop
-same-length-5 c = c .before .loop .inv .6 ∙ c .before .before .before .before .before .before .before .before .before .before .before .before .before .before .opening .kept .1 .1 .1 .1 .1 .1 .0
+same-length-5 c =
+    let after-opening : tie.After-opening Inv-loop μ-loop = search in
+    c .before .loop .inv .6 ∙ after-opening .opening .kept .1 .1 .1 .1 .1 .1 .0
 
 returns : tie.Need-returns Inv-loop μ-loop
 returns c = search needs

@@ -11,13 +11,17 @@ put-requires : tie.Need-put-requires
 put-requires c κs = search needs
 
 put-decimal-requires : tie.Need-put-decimal-requires
-put-decimal-requires c κs = omega (arith, decimal-short (c .before .before .before .before .before .before .before .args .n) (search needs))
+put-decimal-requires c κs =
+    let start : tie.Start = search in
+    omega (arith, decimal-short (start .args .n) (search needs))
 
 slice-aggregate-put : tie.Need-slice-aggregate-put
 slice-aggregate-put c = search needs
 
 put-requires-2 : tie.Need-put-requires-2
-put-requires-2 c κs = omega (arith, decimal-short (c .before .before .before .before .before .before .before .before .before .before .before .before .args .n) (search needs))
+put-requires-2 c κs =
+    let start : tie.Start = search in
+    omega (arith, decimal-short (start .args .n) (search needs))
 
 same-length : tie.Need-same-length
 same-length c = search needs
@@ -25,9 +29,8 @@ same-length c = search needs
 returns : tie.Need-returns
 unfolding entry
 returns c =
-    let numbered = c .before .before .before .before .before .before .before in
-    let worded = numbered .before .before .before .before in
-    let start = worded .before .before .before .before in (
+    let numbered : tie.After-put-decimal = search in let worded : tie.After-put = search in
+    let start : tie.Start = search in (
       then (worded .put .ensures) (then (numbered .put-decimal .ensures) (c .before .before .put2 .ensures)),
       omega (arith, decimal-short (start .args .n) (search needs)),
     )

@@ -26,8 +26,7 @@ same-length c = search needs
 returns : tie.Need-returns
 unfolding bytes
 returns c =
-    let second = c .before .before .before .before .before .before .before in
-    let first = second .before .before .before .before in
+    let second : tie.After-put2 = search in let first : tie.After-put = search in
     row-wrote (first .put .ensures) (second .put2 .ensures) (c .before .before .put3 .ensures)
 
 pub put-row-spec : {M : Type 1} → statement M

@@ -28,7 +28,10 @@ same-length : tie.Need-same-length
 same-length c = search needs
 
 returns : tie.Need-returns
-returns c = c .before .before .copy-at .ensures ∙ part-laid (c .before .before .before .before .before .before .before .before .args .at) (c .before .before .before .before .before .before .before .before .args .n) _ (now (c .before .before .before .before .before .before .before .before .args .input)) (now (c .before .before .before .before .before .before .before .before .args .text)) (c .before .before .before .before .before .smaller .ensures) (c .before .before .before .before .before .before .before .before .pre)
+returns c =
+    let after-smaller : tie.After-smaller = search in let start : tie.Start = search in
+    c .before .before .copy-at .ensures ∙ part-laid (start .args .at) (start .args .n) _ (now (start .args .input))
+    (now (start .args .text)) (after-smaller .smaller .ensures) (start .pre)
 
 pub lay-out-spec : {M : Type 1} → statement M
 lay-out-spec =

@@ -48,16 +48,35 @@ same-length-5 : tie.Need-same-length-5
 same-length-5 c = search needs
 
 returns : tie.Need-returns
-returns c = (next-pressed _ (c .before .before .before .before .before .before .before .before .before .before .before .before .before .before .before .before .before .before .before .before .before .before .before .before .before .before .before .args .t) _ _ _ (sym (c .before .before .before .before .before .before .before .before .before .before .before .before .before .before .before .before .before .reading .given .1) ∙ c .before .before .before .before .before .before .before .before .before .before .before .before .before .before .before .before .before .before .before .reading-at .ensures) _ _ _ _ (c .before .before .before .before .before .before .before .before .before .before .press-key .ensures), onward-pressed _ (c .before .before .before .before .before .before .before .before .before .before .before .before .before .before .before .before .before .before .before .before .before .before .before .before .before .before .before .args .t) _ _ _ (sym (c .before .before .before .before .before .before .before .before .before .before .before .before .before .before .before .before .before .reading .given .1) ∙ c .before .before .before .before .before .before .before .before .before .before .before .before .before .before .before .before .before .before .before .reading-at .ensures) _ _ _ _ (c .before .before .before .before .before .before .before .before .before .before .press-key .ensures))
+returns c =
+    let after-press-key : tie.After-press-key = search in let after-reading : tie.After-reading = search in
+    let after-reading-at : tie.After-reading-at = search in let start : tie.Start = search in (
+      next-pressed _ (start .args .t) _ _ _ (sym (after-reading .reading .given .1) ∙ after-reading-at .reading-at .ensures) _ _ _ _
+          (after-press-key .press-key .ensures),
+      onward-pressed _ (start .args .t) _ _ _ (sym (after-reading .reading .given .1) ∙ after-reading-at .reading-at .ensures) _ _ _ _
+          (after-press-key .press-key .ensures),
+    )
 
 returns-2 : tie.Need-returns-2
-returns-2 c = (next-finished _ (c .before .before .before .before .before .before .before .before .before .before .before .args .t) _ (sym (c .before .enum-told .given .1) ∙ c .before .before .before .reading-at .ensures) _ (c .stop .ensures) _, onward-last (c .before .before .before .before .before .before .before .before .before .before .before .args .t) 0 _ _ (c .stop .ensures) (c .before .before .before .before .before .before .before .before .before .before .before .pre .0))
+returns-2 c =
+    let start : tie.Start = search in (
+      next-finished _ (start .args .t) _ (sym (c .before .enum-told .given .1) ∙ c .before .before .before .reading-at .ensures) _
+          (c .stop .ensures) _,
+      onward-last (start .args .t) 0 _ _ (c .stop .ensures) (start .pre .0),
+    )
 
 same-length-6 : tie.Need-same-length-6
 same-length-6 c = search needs
 
 returns-3 : tie.Need-returns-3
-returns-3 c = (next-unknown _ (c .before .before .before .before .before .before .before .before .before .before .before .before .before .before .before .before .args .t) _ (sym (c .before .before .before .before .before .before .enum-told2 .given .1) ∙ c .before .before .before .before .before .before .before .before .reading-at .ensures) _ _ (c .stop2 .ensures) _ _ _ (c .before .before .before .before .before .line-number .ensures) (c .before .before .before .put-script .ensures), onward-last (c .before .before .before .before .before .before .before .before .before .before .before .before .before .before .before .before .args .t) _ _ _ (c .stop2 .ensures) (c .before .before .before .before .before .before .before .before .before .before .before .before .before .before .before .before .pre .0))
+returns-3 c =
+    let after-line-number : tie.After-line-number = search in let after-enum-told2 : tie.After-enum-told2 = search in
+    let after-reading-at : tie.After-reading-at = search in
+    let start = after-reading-at .before .before .before .before .before .before .before .before in (
+      next-unknown _ (start .args .t) _ (sym (after-enum-told2 .enum-told2 .given .1) ∙ after-reading-at .reading-at .ensures) _ _
+          (c .stop2 .ensures) _ _ _ (after-line-number .line-number .ensures) (c .before .before .before .put-script .ensures),
+      onward-last (start .args .t) _ _ _ (c .stop2 .ensures) (start .pre .0),
+    )
 
 pub next-turn-spec : {M : Type 1} → statement M
 next-turn-spec =

@@ -18,7 +18,10 @@ open-requires : tie.Need-open-requires
 open-requires c κs = search needs
 
 put-block-requires : tie.Need-put-block-requires
-put-block-requires c κs = (opened-printable _ _ _ _ _ (c .before .before .before .before .before .before .before .before .before .before .before .before .«open» .ensures) _ (c .before .before .before .before .before .before .before .before .before .before .before .before .«open» .kept .1 .1 .1 .1 .1 .1 .0), c .before .before .before .before .before .before .before .before .before .before .before .before .before .before .before .before .before .before .before .before .before .before .before .before .before .before .before .pre .1)
+put-block-requires c κs =
+    let after-open : tie.After-open = search in let after-lay-out : tie.After-lay-out = search in
+    let start : tie.Start = search in
+    (opened-printable _ _ _ _ _ (after-open .«open» .ensures) _ (after-open .«open» .kept .1 .1 .1 .1 .1 .1 .0), start .pre .1)
 
 same-length : tie.Need-same-length
 same-length c = search needs
@@ -36,7 +39,10 @@ same-length-5 : tie.Need-same-length-5
 same-length-5 c = search needs
 
 returns : tie.Need-returns
-returns c = opening-does _ _ _ _ _ _ _ _ _ (c .before .before .before .before .before .before .before .before .before .before .before .before .before .before .before .before .before .before .before .before .before .before .before .lay-out .ensures) (c .before .before .before .before .before .before .before .before .before .before .before .before .before .before .before .before .«open» .ensures) (c .before .before .before .put-block .ensures)
+returns c =
+    let after-open : tie.After-open = search in let after-lay-out : tie.After-lay-out = search in
+    opening-does _ _ _ _ _ _ _ _ _ (after-lay-out .lay-out .ensures) (after-open .«open» .ensures)
+    (c .before .before .before .put-block .ensures)
 
 pub opening-spec : {M : Type 1} → statement M
 opening-spec =

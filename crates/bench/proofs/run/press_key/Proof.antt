@@ -9,7 +9,9 @@ press-requires : tie.Need-press-requires
 press-requires c κs = search needs
 
 put-block-requires : tie.Need-put-block-requires
-put-block-requires c κs = (keyed-printable _ _ _ _ (c .before .before .before .before .before .before .before .before .before .before .before .before .press .ensures) _ (c .before .before .before .before .before .before .before .before .before .before .before .before .press .kept .1 .1 .1 .1 .1 .0), c .before .before .before .before .before .before .before .before .before .before .before .before .before .before .before .before .before .before .before .before .before .before .before .pre)
+put-block-requires c κs =
+    let after-press : tie.After-press = search in let start : tie.Start = search in
+    (keyed-printable _ _ _ _ (after-press .press .ensures) _ (after-press .press .kept .1 .1 .1 .1 .1 .0), start .pre)
 
 same-length : tie.Need-same-length
 same-length c = search needs
@@ -27,7 +29,9 @@ same-length-5 : tie.Need-same-length-5
 same-length-5 c = search needs
 
 returns : tie.Need-returns
-returns c = press-does _ _ _ _ _ _ _ _ _ (c .before .before .before .before .before .before .before .before .before .before .before .before .before .before .before .press .ensures) (c .before .before .put-block .ensures)
+returns c =
+    let after-press : tie.After-press = search in
+    press-does _ _ _ _ _ _ _ _ _ (after-press .press .ensures) (c .before .before .put-block .ensures)
 
 pub press-key-spec : {M : Type 1} → statement M
 press-key-spec =

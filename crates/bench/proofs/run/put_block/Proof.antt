@@ -15,7 +15,9 @@ returns : tie.Need-returns
 returns c = block-refused _ _ _ _ (c .before .before .before .before .if1 .taken) (c .before .before .put-refused .ensures)
 
 put-accepted-requires : tie.Need-put-accepted-requires
-put-accepted-requires c κs = (c .before .before .before .before .pre .0 (omega (arith, c .before .if1 .left)), c .before .before .before .before .pre .1)
+put-accepted-requires c κs =
+    let start : tie.Start = search in
+    (start .pre .0 (omega (arith, c .before .if1 .left)), start .pre .1)
 
 same-length-2 : tie.Need-same-length-2
 same-length-2 c = search needs

@@ -15,7 +15,9 @@ use Rattle.bench.proofs.script.heading_of.Tie as tie
 
 -- The input, and the numbers read, where the next line's start is known.
 abbrev input : tie.After-next-at → List ℕ
-input c = c .before .before .before .before .before .before .before .args .s .now
+input c =
+    let start : tie.Start = search in
+    start .args .s .now
 
 abbrev rows : tie.After-next-at → ℕ
 rows c = c .before .before .rows .given .0 .0

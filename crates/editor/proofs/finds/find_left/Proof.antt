@@ -35,8 +35,9 @@ enum-told-2 c = search needs
 
 returns-3 : tie.Need-returns-3
 returns-3 c =
+    let start : tie.Start = search in
     row-found (scan-start _ _ _) _ (omega arith) (c .before .before .match-across2 .ensures) (c .enum-told2 .given .1)
-    ∙ distance-left _ _ _ _ (c .before .before .before .before .before .before .before .pre)
+    ∙ distance-left _ _ _ _ (start .pre)
 
 slice-aggregate-nearest-match : tie.Need-slice-aggregate-nearest-match
 slice-aggregate-nearest-match c = sym (length-take-le _ _ (omega arith))

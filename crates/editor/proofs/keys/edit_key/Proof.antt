@@ -13,7 +13,9 @@ enum-told : tie.Need-enum-told
 enum-told c = search needs
 
 on-side-requires : tie.Need-on-side-requires
-on-side-requires c κs = on-side quarter _ _ (c .before .before .before .before .before .before .before .before .before .pre) Main
+on-side-requires c κs =
+    let start : tie.Start = search in
+    on-side quarter _ _ (start .pre) Main
 
 side-reply-requires : tie.Need-side-reply-requires
 side-reply-requires c κs = search needs
@@ -23,7 +25,8 @@ enum-told-2 c = search needs
 
 edit-quotation-requires : tie.Need-edit-quotation-requires
 edit-quotation-requires c κs =
-    let known = c .before .before .before .before .before .before .before .before .pre in
+    let start : tie.Start = search in
+    let known = start .pre in
     (measured quarter _ (known .tabled) .side, on-side quarter _ _ known Quoted)
 
 side-reply-requires-2 : tie.Need-side-reply-requires-2
@@ -37,9 +40,9 @@ same-length-2 c = search needs
 
 returns : tie.Need-returns
 returns c =
-    let after = c .before .before .before .before .before in
+    let after : tie.After-on-side = search in let start : tie.Start = search in
     let told = after .before .before .before in
-    on-mode quarter _ _ (told .before .before .before .before .before .before .before .pre) Main _ _ _ _ _
+    on-mode quarter _ _ (start .pre) Main _ _ _ _ _
     (told .enum-told .given .1) (c .side-reply .ensures) (after .on-side .ensures)
 
 same-length-3 : tie.Need-same-length-3
@@ -47,11 +50,12 @@ same-length-3 c = search needs
 
 returns-2 : tie.Need-returns-2
 returns-2 c =
+    let start : tie.Start = search in
     let after = c .before .before .before in
     let told = after .before .before in
     let (turns, rest) = after .edit-quotation .ensures in
     ap (replied _) (quotation-placed quarter _ _ _ _ rest)
-    ∙ on-mode quarter _ _ (told .before .before .before .before .before .before .before .pre) Quoted _ _ _ _ _
+    ∙ on-mode quarter _ _ (start .pre) Quoted _ _ _ _ _
     (told .enum-told2 .given .1) (c .side-reply2 .ensures) turns
 
 pub edit-key-spec : {M : Type 1} → statement M

@@ -72,9 +72,8 @@ same-length c = search needs
 returns : tie.Need-returns
 unfolding quarter part
 returns c =
-    let after = c .before .before .before .before .before .before .before .before in
-    let copied = after .before .before .before .before in
-    let start = copied .before .before .before .before .before in
+    let after : tie.After-on-side = search in let copied : tie.After-copy-front = search in
+    let start : tie.Start = search in
     quotation-turned quarter (start .args .side .now) (start .pre .0) _ _ (editing (start .args .e)) _ _ _ _ (own-is copied)
     (after .on-side .kept .1 .1 .0) (after .on-side .kept .1 .1 .1 .0) (after .on-side .ensures) (c .before .before .copy-at .ensures)
 

@@ -23,14 +23,14 @@ mul-give-quotation c = search needs
 give-quotation-requires : tie.Need-give-quotation-requires
 unfolding quarter
 give-quotation-requires c κs =
-    let start = c .before .before .before .before .before .before .before in
+    let start : tie.Start = search in
     let fit = fitting quarter _ _ (start .pre) in
     ((fit .side, fit .quotation), omega arith)
 
 pattern-taken-requires : tie.Need-pattern-taken-requires
 unfolding quarter
 pattern-taken-requires c κs =
-    let start = c .before .before .before .before .before .before .before .before .before .before in
+    let start : tie.Start = search in
     omega (arith, fitting quarter _ _ (start .pre))
 
 search-requires-2 : tie.Need-search-requires-2
@@ -68,8 +68,7 @@ same-length-5 c = search needs
 
 same-length-6 : tie.Need-same-length-6
 same-length-6 c =
-    let found = c .before .before .before .before .before .before in
-    let given = found .before .before .before .before .before .before .before in
+    let found : tie.After-search2 = search in let given : tie.After-give-quotation = search in
     omega (arith, found .search2 .kept .1 .1 .1 .1 .0, given .give-quotation .kept)
 
 returns-2 : tie.Need-returns-2

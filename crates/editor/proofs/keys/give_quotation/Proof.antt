@@ -39,8 +39,8 @@ mul-vacate c = search needs
 vacate-requires : tie.Need-vacate-requires
 unfolding quarter
 vacate-requires c κs =
+    let start : tie.Start = search in
     let copied = c .before .before .before in
-    let start = copied .before .before .before .before .before .before .before .before in
     omega (arith, copied .copy-at .kept .0, start .pre)
 
 same-length : tie.Need-same-length

@@ -31,7 +31,7 @@ returns c =
 
 -- What is known of the stores where each test has passed.
 abbrev start : tie.Else1 → tie.Start
-start c = c .before .before .before .before .before .before .before .before
+start c = search
 
 abbrev held : tie.Start → Stores
 held c = stores (c .args .text .now) (c .args .recall .now) (c .args .side .now)

@@ -26,7 +26,7 @@ known : (c : tie.After-text-begins) → let p = held (c .before .before .before 
     c .text-begins .result ≡ matches (p .pattern) (p .main .text)
 unfolding quarter
 known c =
-    let start = c .before .before .before .before .before .before .before .before .before in
+    let start : tie.Start = search in
     stands-here quarter _ _ (start .pre) _ (c .text-begins .ensures)
 
 -- Past the tests there is room, in MAIN and in QUOTED.
@@ -35,17 +35,17 @@ Roomy start = fits (length (start .args .text .now)) quarter (replaced (held sta
 
 room : (c : tie.Joined1) → Roomy (c .before .before .before .before .before .before .before .before .before .before .before .before)
 room c =
+    let start : tie.Start = search in
     let told = c .before in
     let asked = told .before .before in
-    let start = asked .before .before .before .before .before .before .before .before .before in
     replace-fits quarter _ _ (start .pre) (told .enum-told .given .1) (known asked)
     (⊎-elim (λ w e. w .2 .left) (λ w e. clash e (w .left)) (c .if1 .came))
 
 room-quoted : (c : tie.Joined3) → Roomy (c .before .before .before .before .before .before .before .before .before .before .before .before)
 room-quoted c =
+    let start : tie.Start = search in
     let told = c .before in
     let asked = told .before .before in
-    let start = asked .before .before .before .before .before .before .before .before .before in
     replace-fits quarter _ _ (start .pre) (told .enum-told2 .given .1) (known asked)
     (⊎-elim (λ w e. w .2 .left) (λ w e. clash e (w .left)) (c .if3 .came))
 
@@ -70,12 +70,12 @@ part-text-begins-start c = search needs
 part-text-begins-end : tie.Need-part-text-begins-end
 unfolding quarter
 part-text-begins-end c =
-    let start = c .before .before .before .before .before .before .before in
+    let start : tie.Start = search in
     omega (arith, fitting quarter _ _ (start .pre))
 
 text-begins-requires : tie.Need-text-begins-requires
 text-begins-requires c κs =
-    let start = c .before .before .before .before .before .before .before .before in
+    let start : tie.Start = search in
     (fitting quarter _ _ (start .pre) .document, omega arith)
 
 enum-told : tie.Need-enum-told
@@ -83,24 +83,24 @@ enum-told c = search needs
 
 add-if2 : tie.Need-add-if2
 add-if2 c =
-    let start = c .before .before .before .before .before .before .before .before .before .before .before .before in
+    let start : tie.Start = search in
     omega (arith, fitting quarter _ _ (start .pre))
 
 sub-if2 : tie.Need-sub-if2
 sub-if2 c =
+    let start : tie.Start = search in
     let asked = c .before .before .before in
-    let start = asked .before .before .before .before .before .before .before .before .before in
     omega (arith, pattern-stands quarter _ _ (start .pre) (sym (known asked) ∙ c .if1 .taken))
 
 sub-if2-2 : tie.Need-sub-if2-2
 sub-if2-2 c =
-    let start = c .before .before .before .before .before .before .before .before .before .before .before .before in
+    let start : tie.Start = search in
     omega (arith, fitting quarter _ _ (start .pre))
 
 add-if2-2 : tie.Need-add-if2-2
 unfolding quarter
 add-if2-2 c =
-    let start = c .before .before .before .before .before .before .before .before .before .before .before .before .before in
+    let start : tie.Start = search in
     omega (arith, fitting quarter _ _ (start .pre))
 
 refuse-requires : tie.Need-refuse-requires
@@ -114,20 +114,20 @@ same-length-2 c = search needs
 
 returns : tie.Need-returns
 returns c =
+    let start : tie.Start = search in
     let full = c .before in
     let here = full .before .before in
     let told = here .before in
     let asked = told .before .before in
-    let start = asked .before .before .before .before .before .before .before .before .before in
     replace-refused quarter _ _ (start .pre) (told .enum-told .given .1) (known asked) (here .if1 .taken) (full .if2 .taken) _
     (c .refuse .ensures)
 
 substitute-requires : tie.Need-substitute-requires
 substitute-requires c κs =
+    let start : tie.Start = search in
     let joined = c .before .before .before in
     let told = joined .before in
     let asked = told .before .before in
-    let start = asked .before .before .before .before .before .before .before .before .before in
     let mode = told .enum-told .given .1 in
     let kept = replacement-kept quarter _ _ (start .pre) mode in
     let (match, fit) = replace-substitutes quarter _ _ (start .pre) mode (known asked) (room joined) kept in
@@ -138,24 +138,24 @@ enum-told-2 c = search needs
 
 add-if4 : tie.Need-add-if4
 add-if4 c =
-    let start = c .before .before .before .before .before .before .before .before .before .before .before .before in
+    let start : tie.Start = search in
     omega (arith, fitting quarter _ _ (start .pre))
 
 sub-if4 : tie.Need-sub-if4
 sub-if4 c =
+    let start : tie.Start = search in
     let asked = c .before .before .before in
-    let start = asked .before .before .before .before .before .before .before .before .before in
     omega (arith, pattern-stands quarter _ _ (start .pre) (sym (known asked) ∙ c .if3 .taken))
 
 sub-if4-2 : tie.Need-sub-if4-2
 sub-if4-2 c =
-    let start = c .before .before .before .before .before .before .before .before .before .before .before .before in
+    let start : tie.Start = search in
     omega (arith, fitting quarter _ _ (start .pre))
 
 add-if4-2 : tie.Need-add-if4-2
 unfolding quarter
 add-if4-2 c =
-    let start = c .before .before .before .before .before .before .before .before .before .before .before .before .before in
+    let start : tie.Start = search in
     omega (arith, fitting quarter _ _ (start .pre))
 
 refuse-requires-2 : tie.Need-refuse-requires-2
@@ -169,11 +169,11 @@ same-length-4 c = search needs
 
 returns-2 : tie.Need-returns-2
 returns-2 c =
+    let start : tie.Start = search in
     let full = c .before in
     let here = full .before .before in
     let told = here .before in
     let asked = told .before .before in
-    let start = asked .before .before .before .before .before .before .before .before .before in
     replace-refused quarter _ _ (start .pre) (told .enum-told2 .given .1) (known asked) (here .if3 .taken) (full .if4 .taken) _
     (c .refuse2 .ensures)
 
@@ -183,7 +183,7 @@ mul-give-quotation c = search needs
 give-quotation-requires : tie.Need-give-quotation-requires
 unfolding quarter
 give-quotation-requires c κs =
-    let start = c .before .before .before .before .before .before .before .before .before .before .before .before .before in
+    let start : tie.Start = search in
     let fit = fitting quarter _ _ (start .pre) in
     ((fit .side, fit .quotation), omega arith)
 
@@ -193,12 +193,11 @@ replacement-taken-requires c κs = search needs
 substitute-requires-2 : tie.Need-substitute-requires-2
 unfolding quarter
 substitute-requires-2 c κs =
+    let asked : tie.After-text-begins = search in let start : tie.Start = search in
     let taken = c .before .before .before in
     let given = taken .before .before .before in
     let joined = given .before .before in
     let told = joined .before in
-    let asked = told .before .before in
-    let start = asked .before .before .before .before .before .before .before .before .before in
     let mode = told .enum-told2 .given .1 in
     let handed = replacement-holds quarter _ _ (start .pre) _ _ mode (taken .replacement-taken .ensures) (given .give-quotation .ensures) in
     let (match, fit) = replace-substitutes quarter _ _ (start .pre) mode (known asked) (room-quoted joined) handed in
@@ -215,10 +214,9 @@ same-length-7 c = search needs
 
 returns-3 : tie.Need-returns-3
 returns-3 c =
-    let exchanged = c .before .before .before .before .before .before in
-    let joined = exchanged .before .before .before .before in
+    let exchanged : tie.After-substitute = search in let joined : tie.Joined1 = search in
+    let start = joined .before .before .before .before .before .before .before .before .before .before .before .before in
     let told = joined .before in
-    let start = told .before .before .before .before .before .before .before .before .before .before .before in
     exchanged .substitute .ensures
     ∙ replace-done quarter _ _ (start .pre) (replacement-kept quarter _ _ (start .pre) (told .enum-told .given .1)) (room joined)
 
@@ -230,19 +228,17 @@ same-length-9 c = search needs
 
 same-length-10 : tie.Need-same-length-10
 same-length-10 c =
-    let exchanged = c .before .before .before .before .before .before in
-    let given = exchanged .before .before .before .before .before .before .before in
+    let exchanged : tie.After-substitute2 = search in let given : tie.After-give-quotation = search in
     omega (arith, exchanged .substitute2 .kept .1 .1 .1 .1 .0, given .give-quotation .kept)
 
 returns-4 : tie.Need-returns-4
 unfolding quarter
 returns-4 c =
-    let exchanged = c .before .before .before .before .before .before in
-    let taken = exchanged .before .before .before .before in
+    let exchanged : tie.After-substitute2 = search in let taken : tie.After-replacement-taken = search in
+    let start = taken .before .before .before .before .before .before .before .before .before .before .before .before .before .before .before .before .before in
     let given = taken .before .before .before in
     let joined = given .before .before in
     let told = joined .before in
-    let start = told .before .before .before .before .before .before .before .before .before .before .before in
     let mode = told .enum-told2 .given .1 in
     let handed = replacement-holds quarter _ _ (start .pre) _ _ mode (taken .replacement-taken .ensures) (given .give-quotation .ensures) in
     exchanged .substitute2 .ensures ∙ replace-done quarter _ _ (start .pre) handed (room-quoted joined)

@@ -32,12 +32,12 @@ part-match-distance-start c = search needs
 part-match-distance-end : tie.Need-part-match-distance-end
 unfolding quarter
 part-match-distance-end c =
-    let start = c .before .before .before .before .before .before .before in
+    let start : tie.Start = search in
     omega (arith, fitting quarter _ _ (start .pre))
 
 match-distance-requires : tie.Need-match-distance-requires
 match-distance-requires c κs =
-    let start = c .before .before .before .before .before .before .before .before in
+    let start : tie.Start = search in
     fitting quarter _ _ (start .pre) .document
 
 enum-known-d : tie.Need-enum-known-d
@@ -55,24 +55,23 @@ same-length-2 c = search needs
 returns : tie.Need-returns
 unfolding quarter
 returns c =
+    let start : tie.Start = search in
     let found = c .before .before in
-    let start = found .before .before .before .before .before .before .before .before .before in
     search-done quarter _ _ (start .pre) _ _ _ (found .match-distance .ensures) (c .enum-told .given .1) _ _ _ _ refl
     (not-moved (on-side quarter _ _ (start .pre) Main) _)
 
 shift-requires : tie.Need-shift-requires
 shift-requires c κs =
+    let start : tie.Start = search in
     let told = c .before .before in
     let found = told .before .before in
-    let start = found .before .before .before .before .before .before .before .before .before in
     let on = on-side quarter _ _ (start .pre) Main in
     (on .gap, rw room-of at (within-room on _ _ (found .match-distance .ensures) (told .d .given .1)))
 
 shifted-requires : tie.Need-shifted-requires
 shifted-requires c κs =
-    let told = c .before .before .before .before .before in
+    let told : tie.After-d = search in let start : tie.Start = search in
     let found = told .before .before in
-    let start = found .before .before .before .before .before .before .before .before .before in
     let on = on-side quarter _ _ (start .pre) Main in
     (within-room on _ _ (found .match-distance .ensures) (told .d .given .1), omega (arith, fitting quarter _ _ (start .pre)))
 
@@ -88,11 +87,10 @@ same-length-4 c = search needs
 returns-2 : tie.Need-returns-2
 unfolding quarter
 returns-2 c =
+    let found : tie.After-match-distance = search in let start : tie.Start = search in
     let sizes = c .before in
     let gone = sizes .before .before .before in
     let told = gone .before .before .before in
-    let found = told .before .before in
-    let start = found .before .before .before .before .before .before .before .before .before in
     let on = on-side quarter _ _ (start .pre) Main in
     let room = within-room on _ _ (found .match-distance .ensures) (told .d .given .1) in
     search-done quarter _ _ (start .pre) _ _ _ (found .match-distance .ensures) (told .d .given .1) _ _ _ _ (c .side-reply .ensures)

@@ -58,7 +58,7 @@ part-place-pair-start c = search needs
 part-place-pair-end : tie.Need-part-place-pair-end
 unfolding quarter
 part-place-pair-end c =
-    let start = c .before .before .before .before .before .before .before .before .before .before .before in
+    let start : tie.Start = search in
     omega (arith, fitting quarter _ _ (start .pre .0))
 
 place-pair-requires : tie.Need-place-pair-requires
@@ -86,30 +86,27 @@ part-hold-start c = search needs
 part-hold-end : tie.Need-part-hold-end
 unfolding quarter
 part-hold-end c =
-    let start = c .before .before .before .before .before .before .before .before .before .before .before .before .before .before .before .before .before in
+    let start : tie.Start = search in
     omega (arith, fitting quarter _ _ (start .pre .0))
 
 hold-requires : tie.Need-hold-requires
 hold-requires c κs =
-    let here = c .before .before .before .before .before .before .before .before .before .before .before .before .before .before in
-    let start = here .before .before .before .before in
+    let here : tie.Else1 = search in let start : tie.Start = search in
     simp (length-take, length-drop) (omega (arith, fitting quarter _ _ (start .pre .0), known here))
 
 add-t21 : tie.Need-add-t21
 add-t21 c =
-    let here = c .before .before .before .before .before .before .before .before .before .before .before .before .before .before .before .before .before in
-    let start = here .before .before .before .before in
+    let here : tie.Else1 = search in let start : tie.Start = search in
     omega (arith, known here, fitting quarter _ _ (start .pre .0))
 
 sub-t22 : tie.Need-sub-t22
 sub-t22 c =
-    let here = c .before .before .before .before .before .before .before .before .before .before .before .before .before .before .before .before .before in
+    let here : tie.Else1 = search in
     known here .stands
 
 add-t24 : tie.Need-add-t24
 add-t24 c =
-    let here = c .before .before .before .before .before .before .before .before .before .before .before .before .before .before .before .before .before in
-    let start = here .before .before .before .before in
+    let here : tie.Else1 = search in let start : tie.Start = search in
     omega (arith, known here, fitting quarter _ _ (start .pre .0))
 
 side-reply-requires : tie.Need-side-reply-requires
@@ -117,8 +114,7 @@ side-reply-requires c κs = search needs
 
 same-length : tie.Need-same-length
 same-length c =
-    let placed = c .before .before .before .before .before .before .before .before .before in
-    let dropped = placed .before .before .before .before .before .before in
+    let placed : tie.After-place-pair = search in let dropped : tie.After-drop-right = search in
     omega (arith, placed .place-pair .kept .0, dropped .drop-right .kept .0)
 
 same-length-2 : tie.Need-same-length-2

@@ -17,7 +17,8 @@ sound-pair-requires c κs = search needs
 slice-aggregate-sound-gap : tie.Need-slice-aggregate-sound-gap
 unfolding quarter
 slice-aggregate-sound-gap c =
-    let sizes = measured quarter _ (c .before .before .before .before .before .before .before .before .pre) in
+    let start : tie.Start = search in
+    let sizes = measured quarter _ (start .pre) in
     simp length-take (omega arith)
 
 sound-gap-requires-2 : tie.Need-sound-gap-requires-2
@@ -35,7 +36,8 @@ part-sound-pair-start c = search needs
 part-sound-pair-end : tie.Need-part-sound-pair-end
 unfolding quarter
 part-sound-pair-end c =
-    let sizes = measured quarter _ (c .before .before .before .before .before .before .before .before .before .pre) in
+    let start : tie.Start = search in
+    let sizes = measured quarter _ (start .pre) in
     omega arith
 
 sound-pair-requires-2 : tie.Need-sound-pair-requires-2
@@ -56,7 +58,8 @@ part-sound-pair-start-2 c = search needs
 part-sound-pair-end-2 : tie.Need-part-sound-pair-end-2
 unfolding quarter
 part-sound-pair-end-2 c =
-    let sizes = measured quarter _ (c .before .before .before .before .before .before .before .before .before .before .before .pre) in
+    let start : tie.Start = search in
+    let sizes = measured quarter _ (start .pre) in
     omega arith
 
 sound-pair-requires-3 : tie.Need-sound-pair-requires-3
@@ -77,7 +80,7 @@ part-sound-pair-start-3 c = search needs
 part-sound-pair-end-3 : tie.Need-part-sound-pair-end-3
 unfolding quarter
 part-sound-pair-end-3 c =
-    let start = c .before .before .before .before .before .before .before .before .before .before .before .before .before in
+    let after-sound-gap : tie.After-sound-gap = search in let start : tie.Start = search in
     let sizes = measured quarter _ (start .pre) in
     omega arith
 

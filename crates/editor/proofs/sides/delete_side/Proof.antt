@@ -17,8 +17,8 @@ delete-left-requires c κs =
 
 sub-t14 : tie.Need-sub-t14
 sub-t14 c =
-    let told = c .before .before .before .before .before .before .before in
-    rw (told .enum-told .given .1) at (told .before .before .before .before .pre .1)
+    let told : tie.After-enum-told = search in let start : tie.Start = search in
+    rw (told .enum-told .given .1) at (start .pre .1)
 
 enum-told-2 : tie.Need-enum-told-2
 enum-told-2 c = search needs
@@ -31,8 +31,8 @@ delete-right-requires c κs =
 
 sub-t21 : tie.Need-sub-t21
 sub-t21 c =
-    let told = c .before .before .before .before .before .before .before in
-    rw (told .enum-told2 .given .1) at (told .before .before .before .before .pre .1)
+    let told : tie.After-enum-told2 = search in let start : tie.Start = search in
+    rw (told .enum-told2 .given .1) at (start .pre .1)
 
 same-length : tie.Need-same-length
 same-length c = search needs
@@ -42,10 +42,10 @@ same-length-2 c = search needs
 
 returns : tie.Need-returns
 returns c =
-    let told = c .before .before .before .before .before .before .before in
-    let done = c .before .before .before .before in
+    let done : tie.After-delete-left = search in let told : tie.After-enum-told = search in
+    let start : tie.Start = search in
     rw (told .enum-told .given .1)
-    (deleted (told .before .before .before .before .pre .0) Left (sub-t14 c) refl
+    (deleted (start .pre .0) Left (sub-t14 c) refl
     (done .delete-left .ensures .0) (done .delete-left .ensures .1))
 
 same-length-3 : tie.Need-same-length-3
@@ -56,10 +56,10 @@ same-length-4 c = search needs
 
 returns-2 : tie.Need-returns-2
 returns-2 c =
-    let told = c .before .before .before .before .before .before .before in
-    let done = c .before .before .before .before in
+    let done : tie.After-delete-right = search in let told : tie.After-enum-told2 = search in
+    let start : tie.Start = search in
     rw (told .enum-told2 .given .1)
-    (deleted (told .before .before .before .before .pre .0) Right (sub-t21 c) refl
+    (deleted (start .pre .0) Right (sub-t21 c) refl
     (done .delete-right .ensures .0) (done .delete-right .ensures .1))
 
 pub delete-side-spec : {M : Type 1} → statement M

@@ -24,10 +24,11 @@ same-length-2 c = search needs
 
 returns : tie.Need-returns
 returns c =
-    let found = c .before .before .before .before .before .before .before .before .before in
-    let told = c .before .before .before .before .before .before .before .enum-told .given .1 in
-    by-distance (found .before .before .before .before .pre) _ _ _ (found .place-distance .ensures) told
-    (c .before .before .before .before .bell-side .ensures)
+    let after-bell-side : tie.After-bell-side = search in let after-enum-told : tie.After-enum-told = search in
+    let found : tie.After-place-distance = search in let start : tie.Start = search in
+    let told = after-enum-told .enum-told .given .1 in
+    by-distance (start .pre) _ _ _ (found .place-distance .ensures) told
+    (after-bell-side .bell-side .ensures)
 
 carry-side-requires : tie.Need-carry-side-requires
 carry-side-requires c κs =
@@ -43,10 +44,11 @@ same-length-4 c = search needs
 
 returns-2 : tie.Need-returns-2
 returns-2 c =
-    let found = c .before .before .before .before .before .before .before .before .before .before in
-    let told = c .before .before .before .before .before .before .before .before .d .given .1 in
-    by-distance (found .before .before .before .before .pre) _ _ _ (found .place-distance .ensures) told
-    (c .before .before .before .before .carry-side .ensures)
+    let after-carry-side : tie.After-carry-side = search in let after-d : tie.After-d = search in
+    let found : tie.After-place-distance = search in let start : tie.Start = search in
+    let told = after-d .d .given .1 in
+    by-distance (start .pre) _ _ _ (found .place-distance .ensures) told
+    (after-carry-side .carry-side .ensures)
 
 pub function-side-spec : {M : Type 1} → statement M
 function-side-spec =

@@ -24,8 +24,8 @@ same-length c = search needs
 
 returns-2 : tie.Need-returns-2
 returns-2 c =
-    let start = c .before .before .before .before .before .before .before in
-    insert-done (start .pre) _ (c .before .before .before .before .if1 .left) (c .before .before .insert .ensures)
+    let else1 : tie.Else1 = search in let start : tie.Start = search in
+    insert-done (start .pre) _ (else1 .if1 .left) (c .before .before .insert .ensures)
 
 pub insert-side-spec : {M : Type 1} → statement M
 insert-side-spec =

@@ -17,8 +17,8 @@ same-length c = search needs
 
 returns : tie.Need-returns
 returns c =
-    let start = c .before .before .before .before .before .before .before in
-    moved (start .pre .0) _ (start .pre .1) (c .before .before .before .before .shifted .ensures) (c .before .before .shift .ensures)
+    let after-shifted : tie.After-shifted = search in let start : tie.Start = search in
+    moved (start .pre .0) _ (start .pre .1) (after-shifted .shifted .ensures) (c .before .before .shift .ensures)
 
 pub move-side-spec : {M : Type 1} → statement M
 move-side-spec = tie.close (tie.spec shifted-requires shift-requires same-length returns)

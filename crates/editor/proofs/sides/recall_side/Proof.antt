@@ -36,8 +36,8 @@ same-length-2 c = search needs
 
 returns-2 : tie.Need-returns-2
 returns-2 c =
-    let start = c .before .before .before .before .before .before .before .before in
-    recall-done (start .pre) (c .before .before .before .before .before .if1 .left) (c .before .before .place-pair .ensures)
+    let else1 : tie.Else1 = search in let start : tie.Start = search in
+    recall-done (start .pre) (else1 .if1 .left) (c .before .before .place-pair .ensures)
 
 pub recall-side-spec : {M : Type 1} → statement M
 recall-side-spec =

@@ -39,9 +39,10 @@ all-free-requires c κs = search needs
 
 returns : tie.Need-returns
 returns c =
-    let start = c .before .before .before .before .before .before .before .args in
+    let after-all-allowed : tie.After-all-allowed = search in let start-point : tie.Start = search in
+    let start = start-point .args in
     parts (start .a) (start .b) (start .s .now)
-    (c .before .before .before .before .all-allowed .ensures) (c .before .before .all-allowed2 .ensures) (c .all-free .ensures)
+    (after-all-allowed .all-allowed .ensures) (c .before .before .all-allowed2 .ensures) (c .all-free .ensures)
 
 pub free-between-spec : {M : Type 1} → statement M
 free-between-spec =

@@ -18,8 +18,10 @@ same-length-2 : tie.Need-same-length-2
 same-length-2 c = search needs
 
 returns : tie.Need-returns
-returns c = cuts Right (c .before .before .before .before .before .before .before .before .before .pre)
-    (c .before .before .before .before .take-out .ensures)
+returns c =
+    let after-take-out : tie.After-take-out = search in let start : tie.Start = search in
+    cuts Right (start .pre)
+    (after-take-out .take-out .ensures)
 
 pub delete-right-spec : {M : Type 1} → statement M
 delete-right-spec =

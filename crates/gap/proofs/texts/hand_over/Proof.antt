@@ -33,8 +33,7 @@ same-length c = search needs
 
 returns : tie.Need-returns
 returns c =
-    let held = c .before .before .before .before .before .before .before in
-    let start = held .before .before .before .before .before in
+    let held : tie.After-hold = search in let start : tie.Start = search in
     c .before .before .copy-at .ensures ∙ hands-over _ _ _ (start .args .pair .now) _ (start .pre .0) (start .pre .1) (held .hold .ensures)
 
 pub hand-over-spec : {M : Type 1} → statement M

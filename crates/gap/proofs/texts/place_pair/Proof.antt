@@ -40,8 +40,8 @@ same-length c = search needs
 
 returns : tie.Need-returns
 returns c =
-    let first = c .before .before .before .before .before .before .before in
-    let pre = first .before .before .before .before .before .pre in
+    let first : tie.After-copy-at = search in let start : tie.Start = search in
+    let pre = start .pre in
     c .before .before .copy-at2 .ensures ∙ ap (patch _ _) (first .copy-at .ensures) ∙ places (pre .0) _ _ _ (pre .1 .0) (pre .1 .1)
 
 pub place-pair-spec : {M : Type 1} → statement M

@@ -18,8 +18,9 @@ returns c = no-session _ _ (sym (c .before .editor-ok .ensures) ∙ not-true _ (
 sound : (c : tie.Else1) → let s = c .before .before .before .before .before .before .before in
     Sound quarter (s .args .s .lengths) (stores (s .args .text .now) (s .args .recall .now) (s .args .side .now))
 sound c =
+    let start : tie.Start = search in
     record {
-      tabled = c .before .before .before .before .before .before .before .pre;
+      tabled = start .pre;
       ok = sym (c .before .editor-ok .ensures) ∙ not-false _ (c .if1 .left);
     }
 

@@ -33,7 +33,7 @@ same-length-4 c = search needs
 
 returns : tie.Need-returns
 returns c =
-    let start = c .before .before .before .before .before .before .before .before .before .before .before in
+    let start : tie.Start = search in
     size-refused _ _ _ (entry start) (c .before .before .tabled-stores .ensures) (c .before .if1 .taken) (c .unopened-reply .ensures)
 
 unopened-reply-requires-2 : tie.Need-unopened-reply-requires-2
@@ -53,8 +53,8 @@ same-length-8 c = search needs
 
 returns-2 : tie.Need-returns-2
 returns-2 c =
+    let start : tie.Start = search in
     let long = c .before in
-    let start = long .before .before .before .before .before .before .before .before .before .before .before in
     long-refused _ _ _ (entry start) (long .before .before .tabled-stores .ensures) (long .before .if1 .left) (long .if2 .taken)
     (c .unopened-reply2 .ensures)
 
@@ -75,8 +75,7 @@ enum-told c = search needs
 
 open-sound-requires : tie.Need-open-sound-requires
 open-sound-requires c κs =
-    let fits = c .before .before .before .before .before .before .before .before in
-    let start = fits .before .before .before .before .before .before .before .before .before .before .before in
+    let fits : tie.Else2 = search in let start : tie.Start = search in
     (stores-fit _ _ (entry start) (fits .before .before .tabled-stores .ensures) (fits .before .if1 .left), fits .if2 .left)
 
 same-length-9 : tie.Need-same-length-9
@@ -93,13 +92,13 @@ same-length-12 c = search needs
 
 returns-3 : tie.Need-returns-3
 returns-3 c =
-    let called = c .before .before .before .before .before .before .before .before in
-    let found = called .before .before .before .before .before .before .before in
+    let called : tie.After-open-sound = search in let after-enum-told : tie.After-enum-told = search in
+    let found : tie.After-bad-byte = search in
+    let start = found .before .before .before .before .before .before .before .before .before .before .before .before .before in
     let fits = found .before .before in
-    let start = fits .before .before .before .before .before .before .before .before .before .before .before in
     called .open-sound .ensures
     ∙ text-accepted _ _ _ (entry start) (fits .before .before .tabled-stores .ensures) (fits .before .if1 .left) (fits .if2 .left)
-    (found .bad-byte .ensures) (called .before .before .before .before .before .enum-told .given .1)
+    (found .bad-byte .ensures) (after-enum-told .enum-told .given .1)
 
 unopened-reply-requires-3 : tie.Need-unopened-reply-requires-3
 unopened-reply-requires-3 c κs = search needs
@@ -118,9 +117,9 @@ same-length-16 c = search needs
 
 returns-4 : tie.Need-returns-4
 returns-4 c =
-    let found = c .before .before .before .before in
+    let found : tie.After-bad-byte = search in
+    let start = found .before .before .before .before .before .before .before .before .before .before .before .before .before in
     let fits = found .before .before in
-    let start = fits .before .before .before .before .before .before .before .before .before .before .before in
     text-refused _ _ _ (entry start) (fits .before .before .tabled-stores .ensures) (fits .before .if1 .left) (fits .if2 .left)
     (found .bad-byte .ensures) _ (c .before .before .i .given .1) (c .unopened-reply3 .ensures)
 

@@ -18,10 +18,9 @@ clear-requires-2 c κs = search needs
 
 refresh-requires : tie.Need-refresh-requires
 refresh-requires c κs =
-    let cleared = c .before .before .before .before .before in
-    let opened = cleared .before .before .before .before .before .before .before .before in
+    let cleared : tie.After-clear2 = search in let opened : tie.After-open-text = search in
+    let start : tie.Start = search in
     let lengths = opened .before .before in
-    let start = lengths .before .before .before .before .before in
     refresh-asked _ _ _ _ (start .pre .0) (start .pre .1) (lengths .opening-lengths .ensures) (opened .open-text .ensures)
     (cleared .clear2 .ensures)
 
@@ -39,13 +38,12 @@ same-length-4 c = search needs
 
 returns : tie.Need-returns
 returns c =
+    let cleared : tie.After-clear2 = search in let after-clear : tie.After-clear = search in
+    let opened : tie.After-open-text = search in let lengths : tie.After-opening-lengths = search in
+    let start : tie.Start = search in
     let painted = c .before .before in
-    let cleared = painted .before .before .before .before .before .before in
-    let opened = cleared .before .before .before .before .before .before .before .before in
-    let lengths = opened .before .before in
-    let start = lengths .before .before .before .before .before in
     text-opened _ _ _ _ (start .pre .0) (start .pre .1) (lengths .opening-lengths .ensures) (opened .open-text .ensures)
-    (cleared .clear2 .ensures) (cleared .before .before .before .before .clear .ensures) (painted .refresh .ensures)
+    (cleared .clear2 .ensures) (after-clear .clear .ensures) (painted .refresh .ensures)
 
 pub open-sound-spec : {M : Type 1} → statement M
 open-sound-spec =

@@ -36,7 +36,7 @@ returns c =
 
 -- What is known where each test has passed.
 abbrev start : tie.Else1 → tie.Start
-start c = c .before .before .before .before .before .before .before .before .before .before .before .before
+start c = search
 
 abbrev entry : tie.Start → Lent
 entry s = lent (s .args .text .now) (s .args .recall .now) (s .args .side .now) (s .args .screen .now)
@@ -73,8 +73,9 @@ returns-2 c =
 -- Where both tests have passed, record and stores are sound for the editor.
 sessions : (c : tie.Else2) → let s = start (c .before .before .before .before .before) in Sound quarter (s .args .s .lengths) (entry s .stores)
 sessions c =
-    let s = start (c .before .before .before .before .before) in
-    session-sound (s .args .s) (entry s) (fit (c .before .before .before .before .before)) (ok c)
+    let else1 : tie.Else1 = search in
+    let s = start else1 in
+    session-sound (s .args .s) (entry s) (fit else1) (ok c)
 
 press-session-requires : tie.Need-press-session-requires
 press-session-requires c κs = sessions (c .before .before .before)
@@ -96,10 +97,10 @@ same-length-12 c = search needs
 
 returns-3 : tie.Need-returns-3
 returns-3 c =
-    let done = c .before .before .before .before .before .before .before .before in
-    let tested = done .before .before .before .before in
-    let s = start (tested .before .before .before .before .before) in
-    press-refused (s .args .s) (s .args .k) (entry s) (fit (tested .before .before .before .before .before)) (ok tested) _ _ (done .press-session .ensures) (c .before .if3 .taken) _ (c .turned-down3 .ensures)
+    let done : tie.After-press-session = search in let tested : tie.Else2 = search in let else1 : tie.Else1 = search in
+    let s = start else1 in
+    press-refused (s .args .s) (s .args .k) (entry s) (fit else1) (ok tested) _ _ (done .press-session .ensures) (c .before .if3 .taken) _
+    (c .turned-down3 .ensures)
 
 -- The editor has done the key.
 accepted : (c : tie.Else3) → let done = c .before .before .before .before .before .before .before in
@@ -108,10 +109,9 @@ accepted : (c : tie.Else3) → let done = c .before .before .before .before .bef
     (stores (done .press-session .last .1 .1 .0) (done .press-session .last .1 .1 .1 .0) (done .press-session .last .1 .1 .1 .1 .0))
     (done .press-session .result)
 accepted c =
-    let done = c .before .before .before .before .before .before .before in
-    let tested = done .before .before .before .before in
-    let s = start (tested .before .before .before .before .before) in
-    press-done (s .args .s) (s .args .k) (entry s) (fit (tested .before .before .before .before .before)) (ok tested) _ _ (done .press-session .ensures) (c .if3 .left)
+    let done : tie.After-press-session = search in let tested : tie.Else2 = search in let else1 : tie.Else1 = search in
+    let s = start else1 in
+    press-done (s .args .s) (s .args .k) (entry s) (fit else1) (ok tested) _ _ (done .press-session .ensures) (c .if3 .left)
 
 show-requires : tie.Need-show-requires
 show-requires c κs = let known = accepted (c .before .before .before .before) in (known .sound, known .fit)
@@ -129,7 +129,9 @@ same-length-16 : tie.Need-same-length-16
 same-length-16 c = search needs
 
 returns-4 : tie.Need-returns-4
-returns-4 c = c .before .before .show .ensures ∙ accepted (c .before .before .before .before .before .before .before) .shows
+returns-4 c =
+    let else3 : tie.Else3 = search in
+    c .before .before .show .ensures ∙ accepted else3 .shows
 
 pub press-spec : {M : Type 1} → statement M
 press-spec =

@@ -23,7 +23,7 @@ small c = sym (c .before .rows-and-columns .ensures) ∙ not-false _ (c .if1 .le
 
 mul-result : tie.Need-mul-result
 mul-result c =
-    let s = c .before .before .before .before .before .before .before in
+    let s : tie.Start = search in
     record { fits = omega (arith, product-small (s .args .h) (s .args .w) (small (c .before))) }
 
 returns-2 : tie.Need-returns-2

@@ -79,11 +79,10 @@ same-length-12 c = search needs
 
 returns-3 : tie.Need-returns-3
 returns-3 c =
-    let call = c .before .before .before .before .before .before .before .before .before in
-    let key = call .before .before .before .before .before in
+    let call : tie.After-press = search in let key : tie.After-key-from = search in let start : tie.Start = search in
     let session = key .before in
     let mode = session .before in
-    keyed-given (call .press .result) _ (c .in-numbers .ensures) (mode .before .before .before .before .before .args .n) _ _ _ _ _
+    keyed-given (call .press .result) _ (c .in-numbers .ensures) (start .args .n) _ _ _ _ _
     (mode .if1 .left) (session .session-from .ensures) (key .key-from .ensures) (call .press .ensures)
 
 pub chidukwore-key-spec : {M : Type 1} → statement M

@@ -24,7 +24,8 @@ same-length-4 c = search needs
 
 returns : tie.Need-returns
 returns c =
-    let call = c .before .before .before .before .before .before .before .before .before .«open» in
+    let after-open : tie.After-open = search in
+    let call = after-open .«open» in
     opened-given (call .result) _ (c .in-numbers .ensures) _ _ _ _ (call .ensures)
 
 pub chidukwore-open-spec : {M : Type 1} → statement M

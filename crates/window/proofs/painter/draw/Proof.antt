@@ -46,11 +46,12 @@ draw-run-requires c κs =
 
 same-length-2 : tie.Need-same-length-2 Inv-loop μ-loop
 same-length-2 c =
+    let start : tie.Start Inv-loop μ-loop = search in
     let ran = c .before .before .before in
     let found = ran .before .before .before in
     let row = drawn-in-row (found .before .before .before .loop .inv) (found .before .if1 .left) in
     let run = drawn-run row (found .run-end .ensures) (ran .draw-run .ensures) in
-    run .drawn .easel .long ∙ sym (found .before .before .before .before .before .before .before .pre .0 .long)
+    run .drawn .easel .long ∙ sym (start .pre .0 .long)
 
 returns-2 : tie.Need-returns-2 Inv-loop μ-loop
 returns-2 c =

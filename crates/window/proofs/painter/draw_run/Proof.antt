@@ -38,7 +38,8 @@ sub-at c = search needs
 
 mul-at : tie.Need-mul-at
 mul-at c =
-    let row = on-screen (c .before .before .before .before .before .pre .1 .0) (c .before .before .before .before .before .pre .1 .1) in
+    let start : tie.Start = search in
+    let row = on-screen (start .pre .1 .0) (start .pre .1 .1) in
     omega arith
 
 sub-at-2 : tie.Need-sub-at-2

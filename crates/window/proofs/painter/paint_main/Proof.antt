@@ -61,8 +61,8 @@ same-length c = search needs
 
 returns : tie.Need-returns
 returns c =
-    let fed = c .before .before .before .before .before .before .before in
-    let args = fed .before .before .before .before .before .before .args in
+    let fed : tie.After-feed = search in let start : tie.Start = search in
+    let args = start .args in
     fed-all (after-left fed) _ _ (c .before .before .feed2 .ensures) (main-pieces (args .l) (args .r) (args .text .now))
 
 pub paint-main-spec : {M : Type 1} → statement M

@@ -143,12 +143,12 @@ feed-requires-4 c κs =
 
 same-length : tie.Need-same-length
 same-length c =
-    let fed = c .before .before .before .before .before .before .before in
+    let fed : tie.After-close-quotation = search in
     c .before .before .feed4 .kept .1 .1 .1 .0 ∙ painted₅ fed .easel .long ∙ sym (start₅ fed .pre .0 .long)
 
 returns : tie.Need-returns
 returns c =
-    let fed = c .before .before .before .before .before .before .before in
+    let fed : tie.After-close-quotation = search in
     let args = start₅ fed .args in
     fed-all (painted₅ fed) _ _ (c .before .before .feed4 .ensures)
     (quoted-pieces (args .l) (args .r) (args .text .now) (args .q) (args .s) (args .quarter .now))

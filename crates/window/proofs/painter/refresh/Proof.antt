@@ -47,11 +47,14 @@ enum-told-2 : tie.Need-enum-told-2
 enum-told-2 c = search needs
 
 slice-aggregate-paint-quoted : tie.Need-slice-aggregate-paint-quoted
-slice-aggregate-paint-quoted c = quarter-size (c .before .before .before .before .before .before .before .before .pre .0)
+slice-aggregate-paint-quoted c =
+    let start : tie.Start = search in
+    quarter-size (start .pre .0)
 
 paint-quoted-requires : tie.Need-paint-quoted-requires
 paint-quoted-requires c κs =
-    let start = c .before .before .before .before .before .before .before .before .before in quoted-asked (start .pre .0) (start .pre .1 .0)
+    let start : tie.Start = search in
+    quoted-asked (start .pre .0) (start .pre .1 .0)
 
 finish-requires-2 : tie.Need-finish-requires-2
 finish-requires-2 c κs = finish-asked (in-quoted (c .before .before .before))
@@ -63,14 +66,17 @@ same-length : tie.Need-same-length
 same-length c = search needs
 
 returns : tie.Need-returns
-returns c = refreshed (in-main (c .before .before .before .before .before .before .before)) (c .before .before .before .finish .ensures) (c .named-rows .ensures)
+returns c =
+    let after-paint-main : tie.After-paint-main = search in
+    refreshed (in-main after-paint-main) (c .before .before .before .finish .ensures) (c .named-rows .ensures)
 
 same-length-2 : tie.Need-same-length-2
 same-length-2 c = search needs
 
 returns-2 : tie.Need-returns-2
 returns-2 c =
-    refreshed (in-quoted (c .before .before .before .before .before .before .before)) (c .before .before .before .finish2 .ensures) (c .named-rows2 .ensures)
+    let after-paint-quoted : tie.After-paint-quoted = search in
+    refreshed (in-quoted after-paint-quoted) (c .before .before .before .finish2 .ensures) (c .named-rows2 .ensures)
 
 pub refresh-spec : {M : Type 1} → statement M
 refresh-spec =

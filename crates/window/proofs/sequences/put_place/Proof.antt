@@ -17,7 +17,7 @@ put-requires c κs =
 
 put-decimal-requires : tie.Need-put-decimal-requires
 put-decimal-requires c κs =
-    let start = c .before .before .before .before .before .before .before in
+    let start : tie.Start = search in
     omega (arith, length-placed (start .args .row) (start .args .column))
 
 slice-aggregate-put-2 : tie.Need-slice-aggregate-put-2
@@ -25,12 +25,12 @@ slice-aggregate-put-2 c = search needs
 
 put-requires-2 : tie.Need-put-requires-2
 put-requires-2 c κs =
-    let start = c .before .before .before .before .before .before .before .before .before .before .before .before in
+    let start : tie.Start = search in
     omega (arith, length-placed (start .args .row) (start .args .column))
 
 put-decimal-requires-2 : tie.Need-put-decimal-requires-2
 put-decimal-requires-2 c κs =
-    let start = c .before .before .before .before .before .before .before .before .before .before .before .before .before .before .before .before in
+    let start : tie.Start = search in
     omega (arith, length-placed (start .args .row) (start .args .column))
 
 slice-aggregate-put-3 : tie.Need-slice-aggregate-put-3
@@ -38,7 +38,7 @@ slice-aggregate-put-3 c = search needs
 
 put-requires-3 : tie.Need-put-requires-3
 put-requires-3 c κs =
-    let start = c .before .before .before .before .before .before .before .before .before .before .before .before .before .before .before .before .before .before .before .before .before in
+    let after-put : tie.After-put = search in let start : tie.Start = search in
     omega (arith, length-placed (start .args .row) (start .args .column))
 
 same-length : tie.Need-same-length
@@ -47,10 +47,8 @@ same-length c = search needs
 returns : tie.Need-returns
 unfolding placed
 returns c =
-    let column-end = c .before .before .before .before .before .before .before in
-    let column = column-end .before .before .before .before in
-    let row-end = column .before .before .before .before .before in
-    let row = row-end .before .before .before .before in
+    let column-end : tie.After-put-decimal2 = search in let column : tie.After-put2 = search in
+    let row-end : tie.After-put-decimal = search in let row : tie.After-put = search in
     then (row .put .ensures) (then (row-end .put-decimal .ensures) (then (column .put2 .ensures)
     (then (column-end .put-decimal2 .ensures) (c .before .before .put3 .ensures))))
 

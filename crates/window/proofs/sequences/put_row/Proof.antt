@@ -40,8 +40,7 @@ same-length c = search needs
 
 returns : tie.Need-returns
 returns c =
-    let placed = c .before .before .before .before .before .before .before in
-    let start = placed .before .before .before .before in
+    let placed : tie.After-put-place = search in let start : tie.Start = search in
     row-wrote _ _ _ (start .pre .0 .1) (placed .put-place .ensures) (c .before .before .put .ensures)
 
 pub put-row-spec : {M : Type 1} → statement M
