@@ -1,4 +1,5 @@
 -- The keys on the plain state. (01, plain editor, from the function keys on.)
+use Rattle.gap.specs.Checks.{Check, check, unless}
 use Rattle.editor.specs.Words.{List, [], _∷_, Bool, true, false, _&&_, cond, ℕ, leb, length}
 use Rattle.editor.specs.Words.{Direction, Left, Right, Search, Reached, Nowhere, Action, Move, Delete, Mode, Main, Quoted}
 use Rattle.editor.specs.Words.{Place, Character, Word, LineBeginning, LineEnding, Document}
@@ -9,7 +10,7 @@ use Rattle.gap.specs.Nearest.{distance}
 use Rattle.gap.specs.Layout.{allowed}
 use Rattle.editor.specs.Places.{isAt}
 use Rattle.editor.specs.Plain.{Side, emptySide, Plain, quiet, rang, went, Did, reporting, within, Outcome, refused, done}
-use Rattle.editor.specs.Refusals.{KEY, FULL, Check, check, unless}
+use Rattle.editor.specs.Refusals.{KEY, FULL}
 
 -- Of the twenty function keys two are never carried out. (01, refusals: KEY.)
 abbrev pub soundFunction : Action → Direction → Place → Bool

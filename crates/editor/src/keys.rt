@@ -16,19 +16,21 @@ use crate::searches::replace_key;
 use crate::sides::on_side;
 use gap::Direction;
 ghost use mathlib.Core.Path.{_≡_};
-ghost use Rattle.gap.specs.Layout.{allowed};
-ghost use Rattle.editor.specs.Keys.{soundFunction, soundKey, onSide, pressed, bounded, key};
+ghost use Rattle.editor.specs.Keys.{soundFunction, soundKey, onSide, pressed, bounded, key, quoted};
 ghost use Rattle.editor.specs.Bytes.{quarter};
 ghost use Rattle.editor.specs.Promise.{editing, Sound, stores, Edits};
+ghost use mathlib.Core.Bool.{false};
+use gap::Search;
+use gap::runs::copy_at;
+use gap::runs::copy_front;
+use gap::runs::hold;
+use gap::runs::vacate;
+use gap::sound::is_allowed;
+use gap::texts::drop_right;
+use gap::texts::hand_over;
+use gap::texts::place_pair;
 
 // ---- Which keys are sound
-
-// A byte that a text may have.
-pub fn is_allowed(b: u8) -> bool
-    ensures { λ ok. ⌜ ok ≡ allowed b ⌝ }
-{
-    (b == 10) | ((32 <= b) & (b <= 126))
-}
 
 // All function keys but two.
 pub fn sound_function(action: Action, way: Direction, place: Place) -> bool

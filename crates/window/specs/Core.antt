@@ -1,10 +1,11 @@
 -- The core: opening and the key call as total functions on any record and any four stores.
+use Rattle.gap.specs.Checks.{check, unless}
 use Rattle.window.specs.Words.{List, [], _∷_, Bool, not, _&&_, ℕ, _-_, _*_, eqb, leb, length, take, getD}
 use Rattle.window.specs.Words.{Key, Search, Reached, Nowhere, Report, Frame, Session, Answer}
 use Rattle.gap.specs.Doc.{Doc}
 use Rattle.gap.specs.Nearest.{nearest}
 use Rattle.gap.specs.Layout.{allowed}
-use Rattle.editor.specs.Refusals.{SIZE, LONG, TEXT, SESSION, check, unless}
+use Rattle.editor.specs.Refusals.{SIZE, LONG, TEXT, SESSION}
 use Rattle.editor.specs.Plain.{Plain, opening, quiet, Did, Outcome, refused, done}
 use Rattle.editor.specs.Keys.{key}
 use Rattle.editor.specs.Bytes.{Stores, quarter, sized, plainOf, lengthsOf, storesOf, editorOk}

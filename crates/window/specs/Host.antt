@@ -1,8 +1,7 @@
 -- The host's boundary: record, key and answer as numbers. (DECISIONS D1 to D4.)
-use Rattle.window.specs.Words.{Bool, true, false, _&&_, cond, ℕ, eqb, leb, Left, Right, Direction, Action, Move, Delete}
-use Rattle.window.specs.Words.{Mode, Main, Quoted, Place, Character, Word, LineBeginning, LineEnding, Document, Session, Answer}
-use Rattle.window.specs.Words.{Key, Insert, Function, Recall, Quote, Find, Replace}
+use Rattle.window.specs.Words.{_&&_, cond, ℕ, eqb, leb, Left, Right, Direction, Action, Move, Delete, Mode, Main, Quoted, Place, Character, Word, LineBeginning, LineEnding, Document, Session, Answer, Key, Insert, Function, Recall, Quote, Find, Replace}
 use Rattle.editor.specs.Refusals.{SIZE, SESSION}
+use Rattle.gap.specs.Numbers.{bit}
 use Rattle.window.specs.declared.Reply.{Reply}
 use Rattle.window.specs.declared.host.Record.{Record}
 use Rattle.window.specs.declared.host.Said.{Said}
@@ -88,10 +87,6 @@ keyFrom kind a b c =
     (cond (eqb kind 5) Replace none)))))
 
 -- The answer in numbers.
-abbrev pub bit : Bool → ℕ
-bit true = 1
-bit false = 0
-
 abbrev pub saidOf : Answer → Said
 saidOf a =
     record {

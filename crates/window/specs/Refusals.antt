@@ -1,8 +1,9 @@
 -- The checks of each call, in order: theorems say with them when each number is given. (01, refusals: order; 02, M-100: refusals.)
+use Rattle.gap.specs.Checks.{Check, check}
 use Rattle.window.specs.Words.{List, [], _∷_, ℕ, leb, length, take, Key, Session}
 use Rattle.gap.specs.Sequence.{every}
 use Rattle.gap.specs.Layout.{allowed, printable}
-use Rattle.editor.specs.Refusals.{SIZE, LONG, TEXT, SESSION, KEY, ROOM, Check, check}
+use Rattle.editor.specs.Refusals.{SIZE, LONG, TEXT, SESSION, KEY, ROOM}
 use Rattle.editor.specs.Keys.{soundKey, pressed, finishedChecks}
 use Rattle.editor.specs.Bytes.{quarter}
 use Rattle.window.specs.Core.{Lent, T, tabled, isSession, held}

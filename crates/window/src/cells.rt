@@ -1,32 +1,16 @@
 // The cells of one row: the pen writes a run or blanks, finds out whether a cell was another before, and goes on to the next line.
 use crate::Frame;
 use crate::Pen;
+use gap::numbers::larger;
+use gap::numbers::smaller;
 ghost use mathlib.Core.Path.{_≡_};
 ghost use mathlib.Core.Bool.{not, true, false};
-ghost use Prim.Native.Nat.{_+_, _-_, _^_, _≤_, _<_, min, max};
+ghost use Prim.Native.Nat.{_+_, _-_, _^_, _≤_, _<_};
 ghost use lib.ListN.{length, replicate};
 ghost use lib.Dec.{eqb};
 ghost use Rattle.gap.specs.Sequence.{every, sameBytes};
 ghost use Rattle.gap.specs.Lines.{newline};
 ghost use Rattle.window.specs.Painter.{above, over, cellOf, OnRow, penBelow, lineEnd, paint, Easel, sheet};
-
-fn larger(a: usize, b: usize) -> usize
-    ensures { λ m. ⌜ m ≡ max a b ⌝ }
-{
-    if a < b {
-        return b;
-    }
-    a
-}
-
-fn smaller(a: usize, b: usize) -> usize
-    ensures { λ m. ⌜ m ≡ min a b ⌝ }
-{
-    if a < b {
-        return a;
-    }
-    b
-}
 
 // A run of cells is written; answers whether one was another before.
 fn put_run(cells: &mut [u8], run: &[u8]) -> bool

@@ -14,15 +14,15 @@ use gap::lines::front_without;
 use gap::lines::since_newline;
 ghost use mathlib.Core.Path.{_≡_};
 ghost use mathlib.Core.Bool.{true, false};
-ghost use mathlib.Core.List.{[], _∷_};
-ghost use Prim.Native.Nat.{_+_, _≤_, _<_};
+ghost use Prim.Native.Nat.{_+_, _-_, _≤_, _<_};
 ghost use lib.ListN.{length};
-ghost use Rattle.gap.specs.Doc.{content};
 ghost use Rattle.gap.specs.Lines.{newline, newlines};
+ghost use Rattle.window.specs.Painter.{above, paint, finishPaint, begun, Easel, Canvas, sheet, RunEnd, LineStart};
+ghost use mathlib.Core.List.{[], _∷_};
+ghost use Rattle.gap.specs.Doc.{content};
 ghost use Rattle.gap.specs.Layout.{ungap};
 ghost use Rattle.editor.specs.declared.Mode.the-variants.{Quoted};
 ghost use Rattle.window.specs.Window.{virtualIn, visible};
-ghost use Rattle.window.specs.Painter.{above, paint, finishPaint, begun, Easel, Canvas, sheet, RunEnd, LineStart};
 ghost use Rattle.window.specs.Calls.{Texts, virtualHeld, Refreshed};
 
 // Where the run from index i on ends: at a newline, or at the end.

@@ -5,13 +5,13 @@ use mathlib.Core.List.{List, [], _++_}
 use Prim.Native.Nat.{ℕ, _+_, _*_, _≤_}
 use native.Mathlib.Nat.{sub-zero}
 use native.Mathlib.Omega.{arith}
-use lib.ListN.{length, take, replicate-append-replicate}
+use lib.ListN.{length, take}
 use lib.Seq.{length-take-le}
 use Rattle.gap.specs.Sequence.{zeros}
 use Rattle.gap.specs.Doc.{empty}
 use Rattle.gap.specs.Layout.{gapped, paired}
+use Rattle.gap.proofs.Laws.Runs.{zeros-both}
 use Rattle.editor.specs.Words.{Lengths}
-use Rattle.editor.specs.Plain.{opening}
 use Rattle.editor.specs.Bytes.{Stores, quarter, sized, lengthsOf, storesOf}
 use Rattle.editor.specs.Promise.{stores, Opens, openingLengths}
 use Rattle.editor.proofs.Laws.Quotation.{no-quotation}
@@ -22,19 +22,15 @@ zeros-pair : (size : ℕ) → zeros size ≡ paired size empty
 unfolding paired
 zeros-pair size = ap zeros (sym (sub-zero size))
 
-zeros-both : (k j : ℕ) → zeros (k + j) ≡ zeros k ++ zeros j
-unfolding zeros
-zeros-both k j = sym (replicate-append-replicate {A = ℕ} k j 0)
-
 pairs-twice : (Q : ℕ) → zeros (2 * Q) ≡ paired Q empty ++ paired Q empty
 pairs-twice Q =
     let double : 2 * Q ≡ Q + Q = omega arith in
-    ap zeros double ∙ zeros-both Q Q ∙ ap₂ _++_ (zeros-pair Q) (zeros-pair Q)
+    ap zeros double ∙ sym (zeros-both Q Q) ∙ ap₂ _++_ (zeros-pair Q) (zeros-pair Q)
 
 zeros-side : (Q : ℕ) → zeros (4 * Q) ≡ gapped Q empty ++ (paired Q empty ++ (paired Q empty ++ paired Q empty))
 zeros-side Q =
     let four : 4 * Q ≡ 2 * Q + 2 * Q = omega arith in
-    ap zeros four ∙ zeros-both (2 * Q) (2 * Q) ∙ no-quotation Q (zeros (2 * Q))
+    ap zeros four ∙ sym (zeros-both (2 * Q) (2 * Q)) ∙ no-quotation Q (zeros (2 * Q))
     ∙ ap (λ rest. gapped Q empty ++ (paired Q empty ++ rest)) (pairs-twice Q)
 
 -- What `open_stores` leaves, call by call.

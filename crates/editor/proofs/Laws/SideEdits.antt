@@ -15,11 +15,11 @@ use Rattle.gap.specs.Layout.{gapped, paired, ungap, unpair, IsGap}
 use Rattle.gap.proofs.Laws.Tests.{cond-true, cond-false}
 use Rattle.gap.proofs.Laws.Sequence.{length-part}
 use Rattle.gap.proofs.Laws.Doc.{deletions-left, deletions-right, insertions, length-moves, room-moves, room-behind}
-use Rattle.gap.proofs.Laws.Stores.{length-left, length-right}
-use Rattle.gap.proofs.Theorems.Distance.{distance-least}
+use Rattle.gap.proofs.Laws.Layout.{length-left, length-right}
 use Rattle.editor.specs.Words.{Direction, Left, Right, Search, Reached, Nowhere, Action, Move, Delete, Place, Sizes, Report}
 use Rattle.editor.specs.declared.SideReply.{SideReply}
 use Rattle.editor.specs.Plain.{Side, quiet, rang, went, Did, reporting}
+use Rattle.gap.proofs.Laws.Nearest.{reached-least}
 use Rattle.editor.specs.Keys.{inserted, carried, function, recalled}
 use Rattle.editor.specs.Places.{isAt}
 use Rattle.editor.specs.Bytes.{sizesOf}
@@ -76,12 +76,13 @@ single b = record { l = b ∷ []; r = [] }
 
 -- A distance that was found is within the room.
 room-held : (n : Sizes) {text : List ℕ} → IsGap (n .l) (n .r) text → (way : Direction) → roomOf way n ≡ room way (ungap (n .l) (n .r) text)
-room-held n gap Left = sym (length-left gap)
-room-held n gap Right = sym (length-right gap)
+room-held n gap Left = sym (length-left _ _ _ (gap .fits))
+room-held n gap Right = sym (length-right _ _ _ (gap .fits))
 
 pub within-room : (n : Sizes) {text : List ℕ} → IsGap (n .l) (n .r) text → (way : Direction) (place : Doc → Bool) {found : Search} {d : ℕ}
     → found ≡ distance way place (ungap (n .l) (n .r) text) → found ≡ Reached d → d ≤ roomOf way n
-within-room n gap way place {d = d} e told = rw (room-held n gap way) (distance-least way place _ d .0 (sym e ∙ told) .within)
+unfolding distance
+within-room n gap way place {d = d} e told = omega (arith, room-held n gap way, reached-least _ _ 1 d (sym e ∙ told) .within)
 
 -- Two stores that hold a side.
 module _ {n : Sizes} {text recall : List ℕ} (on : OnSide n text recall) where
@@ -92,10 +93,10 @@ module _ {n : Sizes} {text recall : List ℕ} (on : OnSide n text recall) where
   pair = unpair (n .rl) (n .rr) recall
 
   left : length (doc .l) ≡ n .l
-  left = length-left (on .gap)
+  left = length-left _ _ _ (on .gap .fits)
 
   right : length (doc .r) ≡ n .r
-  right = length-right (on .gap)
+  right = length-right _ _ _ (on .gap .fits)
 
   first : length (pair .l) ≡ n .rl
   unfolding unpair

@@ -1,8 +1,8 @@
 -- The opening call: what its tests refuse, and what a text that passes them becomes in the four stores.
-use mathlib.Core.Path.{_≡_, refl, sym, ap, ap₂, _∙_}
-use mathlib.Core.Bool.{Bool, true, false, not, _&&_, cond}
+use mathlib.Core.Path.{_≡_, sym, ap, _∙_}
+use mathlib.Core.Bool.{Bool, true, false, not, _&&_}
 use mathlib.Core.List.{List, []}
-use Prim.Native.Nat.{ℕ, zero, suc, _+_, _≤_, _<_}
+use Prim.Native.Nat.{ℕ, _+_, _≤_, _<_}
 use native.Mathlib.Omega.{arith}
 use lib.Dec.{leb}
 use lib.ListN.{length, take, getD}
@@ -18,6 +18,7 @@ use Rattle.gap.proofs.Laws.Tests.{and-left, and-right, cond-true, cond-false}
 use Rattle.gap.proofs.Laws.Layout.{length-gapped, ungap-gapped}
 use Rattle.editor.specs.Refusals.{SIZE, LONG, TEXT}
 use Rattle.editor.specs.Plain.{quiet}
+use Rattle.gap.proofs.Laws.Nearest.{nearest-same}
 use Rattle.editor.specs.Bytes.{quarter, lengthsOf, storesOf}
 use Rattle.editor.specs.Promise.{stores, Opens, openingLengths}
 use Rattle.editor.proofs.Laws.Session.{measured}
@@ -117,14 +118,6 @@ module _ (n H W : ℕ) (b : Lent) (fit : tabled H W b ≡ true) (fits : n ≤ T 
         }
 
 -- ---- The three tests
-
--- Tests that agree on the numbers looked at find the same number.
-nearest-same : {f g : ℕ → Bool} (n k : ℕ) → ((j : ℕ) → k ≤ j → j < k + n → f j ≡ g j) → nearest f n k ≡ nearest g n k
-unfolding nearest
-nearest-same zero k same = refl
-nearest-same (suc n) k same =
-    ap₂ (λ passes further. cond passes (Reached k) further) (same k (omega arith) (omega arith))
-    (nearest-same n (suc k) (λ j low high. same j (omega arith) (omega arith)))
 
 -- The first n bytes by themselves have the bad byte that they have in the store.
 bad-byte-within : (n : ℕ) (text : List ℕ) → n ≤ length text

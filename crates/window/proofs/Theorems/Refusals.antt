@@ -9,6 +9,7 @@ use lib.Dec.{leb}
 use lib.ListN.{length, take, getD}
 use lib.Seq.{length-take-le, getD-take}
 use borrow.Author.Tests.{leb-true, not-true, not-false}
+use Rattle.gap.specs.Checks.{check, firstFailed, Passing}
 use Rattle.gap.specs.declared.Search.{Search}
 use Rattle.gap.specs.declared.Search.the-variants.{Reached, Nowhere}
 use Rattle.gap.specs.Sequence.{every}
@@ -18,15 +19,14 @@ use Rattle.gap.proofs.Laws.Tests.{decided, clash}
 use Rattle.gap.proofs.Laws.Sequence.{every-at, at-every}
 use Rattle.gap.proofs.Laws.Nearest.{Least, reached-least, nowhere-none}
 use Rattle.editor.specs.declared.Key.{Key}
-use Rattle.editor.specs.Refusals.{SIZE, LONG, TEXT, SESSION, KEY, FULL, check, firstFailed, Passing}
+use Rattle.editor.specs.Refusals.{SIZE, LONG, TEXT, SESSION, KEY, FULL}
 use Rattle.editor.specs.Plain.{Plain, Did, refused, done}
 use Rattle.editor.specs.Keys.{soundKey, pressed, fits, bounded, key}
 use Rattle.editor.specs.Bytes.{quarter}
 use Rattle.window.specs.Words.{Session}
-use Rattle.window.specs.Core.{Lent, Called, T, tabled, isSession, held}
-use Rattle.window.specs.Core.{unopened, openedText, badByte, unlessBad, opened, turnedDown, shown, finished, keyed}
+use Rattle.window.specs.Core.{Lent, Called, T, tabled, isSession, held, unopened, openedText, badByte, unlessBad, opened, turnedDown, shown, finished, keyed}
 use Rattle.window.specs.Refusals.{openingChecks, keyChecks}
-use Rattle.window.proofs.Laws.Order.{exactly, accepted-exactly}
+use Rattle.gap.proofs.Laws.Order.{exactly, accepted-exactly}
 
 -- ---- opening
 

@@ -10,6 +10,7 @@ use lib.Dec.{leb}
 use lib.ListN.{length, getD}
 use lib.Seq.{take-length}
 use borrow.Author.Tests.{leb-true}
+use Rattle.gap.specs.Checks.{Check, check, firstFailed, Passing}
 use Rattle.gap.specs.declared.Search.{Search}
 use Rattle.gap.specs.declared.Search.the-variants.{Reached, Nowhere}
 use Rattle.gap.specs.Sequence.{every, patch}
@@ -17,11 +18,11 @@ use Rattle.gap.specs.Layout.{printable}
 use Rattle.gap.specs.Written.{Wrote}
 use Rattle.gap.proofs.Laws.Nearest.{Least, reached-least}
 use Rattle.gap.proofs.Laws.Writers.{wrote-length, wrote-front, wrote-behind}
-use Rattle.editor.specs.Refusals.{SIZE, TEXT, ROOM, Check, check, firstFailed, Passing}
+use Rattle.editor.specs.Refusals.{SIZE, TEXT, ROOM}
 use Rattle.window.specs.Sequences.{sentScreen}
 use Rattle.window.specs.Sending.{SendOutcome, sendable, badCell, unsent, sentFront, unlessBadCell, sending, Fronted}
 use Rattle.window.specs.Refusals.{sendChecks}
-use Rattle.window.proofs.Laws.Order.{exactly, accepted-exactly}
+use Rattle.gap.proofs.Laws.Order.{exactly, accepted-exactly}
 use Rattle.window.proofs.Theorems.Refusals.{none, none-fails}
 
 run-fronted : (run old : List ℕ) → length run ≤ length old → Fronted run old (length run) (patch 0 run old)

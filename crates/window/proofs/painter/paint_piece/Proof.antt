@@ -4,7 +4,7 @@ use native.Mathlib.Omega.{arith}
 use borrow.Author.Needs.{needs}
 use borrow.Author.Tests.{le-ltb}
 use Rattle.window.specs.Painter.{sheet}
-use Rattle.window.proofs.Laws.Spots.{newlines-within}
+use Rattle.gap.proofs.Laws.Lines.{newlines-fit}
 use Rattle.window.proofs.Laws.Pieces.{piece-above, FirstLine, piece-lines, first-line, piece-asked, piece-painted}
 use Rattle.window.proofs.painter.paint_piece.Statement.{statement}
 use Rattle.window.proofs.painter.paint_piece.Tie as tie
@@ -15,7 +15,7 @@ draw-requires c κs = (c .before .before .before .before .pre, le-ltb _ _ (c .be
 add-below : tie.Need-add-below
 add-below c =
     let start = c .before .before .before .before in
-    omega (arith, c .count-newlines .ensures, newlines-within (start .args .t .now), start .pre .pen)
+    omega (arith, c .count-newlines .ensures, newlines-fit (start .args .t .now), start .pre .pen)
 
 since-newline-requires : tie.Need-since-newline-requires
 since-newline-requires c κs = omega (arith, c .before .before .before .before .before .pre .pen)
