@@ -3,6 +3,7 @@ pub mod calls;
 pub mod cells;
 pub mod cursor;
 pub mod host;
+pub mod host_keys;
 pub mod painter;
 pub mod sender;
 pub mod sequences;

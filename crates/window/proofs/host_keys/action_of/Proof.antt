@@ -1,7 +1,7 @@
--- `host::action_of` meets its contract: its test is the definition's.
+-- `host_keys::action_of` meets its contract: its test is the definition's.
 use borrow.Author.Tests.{ne-eqb}
-use Rattle.window.proofs.host.action_of.Statement.{statement}
-use Rattle.window.proofs.host.action_of.Tie as tie
+use Rattle.window.proofs.host_keys.action_of.Statement.{statement}
+use Rattle.window.proofs.host_keys.action_of.Tie as tie
 
 returns : tie.Need-returns
 returns c = rw (c .if1 .taken)

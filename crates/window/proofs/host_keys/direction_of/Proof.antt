@@ -1,7 +1,7 @@
--- `host::direction_of` meets its contract: its test is the definition's.
+-- `host_keys::direction_of` meets its contract: its test is the definition's.
 use borrow.Author.Tests.{ne-eqb}
-use Rattle.window.proofs.host.direction_of.Statement.{statement}
-use Rattle.window.proofs.host.direction_of.Tie as tie
+use Rattle.window.proofs.host_keys.direction_of.Statement.{statement}
+use Rattle.window.proofs.host_keys.direction_of.Tie as tie
 
 returns : tie.Need-returns
 returns c = rw (c .if1 .taken)

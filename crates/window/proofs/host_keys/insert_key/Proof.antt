@@ -1,8 +1,8 @@
--- `host::insert_key` meets its contract: the test is the definition's.
+-- `host_keys::insert_key` meets its contract: the test is the definition's.
 use borrow.Author.Tests.{le-leb, lt-leb}
 use borrow.Author.Needs.{needs}
-use Rattle.window.proofs.host.insert_key.Statement.{statement}
-use Rattle.window.proofs.host.insert_key.Tie as tie
+use Rattle.window.proofs.host_keys.insert_key.Statement.{statement}
+use Rattle.window.proofs.host_keys.insert_key.Tie as tie
 
 returns : tie.Need-returns
 returns c = rw (lt-leb _ _ (c .if1 .taken))

@@ -1,10 +1,10 @@
--- `host::find_key` meets its contract: the test is the definition's.
+-- `host_keys::find_key` meets its contract: the test is the definition's.
 use mathlib.Core.Path.{ap}
 use borrow.Author.Needs.{needs}
 use borrow.Author.Tests.{le-leb, lt-leb}
 use Rattle.window.specs.Words.{Find}
-use Rattle.window.proofs.host.find_key.Statement.{statement}
-use Rattle.window.proofs.host.find_key.Tie as tie
+use Rattle.window.proofs.host_keys.find_key.Statement.{statement}
+use Rattle.window.proofs.host_keys.find_key.Tie as tie
 
 returns : tie.Need-returns
 returns c = rw (lt-leb _ _ (c .if1 .taken))

@@ -1,9 +1,9 @@
--- `host::key_from` meets its contract: its tests are the definition's.
+-- `host_keys::key_from` meets its contract: its tests are the definition's.
 use borrow.Author.Needs.{needs}
 use borrow.Author.Tests.{ne-eqb}
 use Rattle.window.specs.Host.{keyFrom}
-use Rattle.window.proofs.host.key_from.Statement.{statement}
-use Rattle.window.proofs.host.key_from.Tie as tie
+use Rattle.window.proofs.host_keys.key_from.Statement.{statement}
+use Rattle.window.proofs.host_keys.key_from.Tie as tie
 
 insert-key-requires : tie.Need-insert-key-requires
 insert-key-requires c κs = search needs

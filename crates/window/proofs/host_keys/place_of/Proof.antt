@@ -1,7 +1,7 @@
--- `host::place_of` meets its contract: its tests are the definition's.
+-- `host_keys::place_of` meets its contract: its tests are the definition's.
 use borrow.Author.Tests.{ne-eqb}
-use Rattle.window.proofs.host.place_of.Statement.{statement}
-use Rattle.window.proofs.host.place_of.Tie as tie
+use Rattle.window.proofs.host_keys.place_of.Statement.{statement}
+use Rattle.window.proofs.host_keys.place_of.Tie as tie
 
 returns : tie.Need-returns
 returns c = rw (c .if1 .taken)

@@ -1,9 +1,9 @@
--- `host::function_key` meets its contract: its tests are the definition's.
+-- `host_keys::function_key` meets its contract: its tests are the definition's.
 use borrow.Author.Needs.{needs}
 use borrow.Author.Tests.{le-leb, lt-leb}
 use Rattle.window.specs.Words.{Function}
-use Rattle.window.proofs.host.function_key.Statement.{statement}
-use Rattle.window.proofs.host.function_key.Tie as tie
+use Rattle.window.proofs.host_keys.function_key.Statement.{statement}
+use Rattle.window.proofs.host_keys.function_key.Tie as tie
 
 returns : tie.Need-returns
 returns c = rw (lt-leb _ _ (c .if1 .taken))
