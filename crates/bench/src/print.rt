@@ -7,9 +7,9 @@ ghost use mathlib.Core.Path.{_≡_};
 ghost use mathlib.Core.List.{_++_};
 ghost use Prim.Native.Nat.{_+_, _*_, _≤_};
 ghost use lib.ListN.{length};
-ghost use Rattle.gap.specs.Fields.{entry};
-ghost use Rattle.gap.specs.Written.{Wrote};
-ghost use Rattle.bench.specs.Print.{rowsOf, acceptedBlock, refusedBlock, scriptLine, Printable};
+ghost use Rattle.gap.specs.Rules.Fields.{entry};
+ghost use Rattle.gap.specs.Wording.Written.{Wrote};
+ghost use Rattle.bench.specs.Rules.Print.{rowsOf, acceptedBlock, refusedBlock, scriptLine, Printable};
 
 // Two entries.
 fn put_two(word: &[u8], n: usize, other: &[u8], m: usize, out: &mut [u8], at: usize) -> usize

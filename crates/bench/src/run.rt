@@ -21,13 +21,13 @@ ghost use mathlib.Core.Path.{_≡_};
 ghost use mathlib.Core.Bool.{false};
 ghost use Prim.Native.Nat.{_+_, _≤_, _<_};
 ghost use lib.ListN.{length, take};
-ghost use Rattle.gap.specs.Sequence.{part, patch};
-ghost use Rattle.gap.specs.Written.{Wrote};
-ghost use Rattle.window.specs.Calls.{lent};
+ghost use Rattle.gap.specs.Rules.Sequence.{part, patch};
+ghost use Rattle.gap.specs.Wording.Written.{Wrote};
+ghost use Rattle.window.specs.Wording.Calls.{lent};
 ghost use Rattle.bench.specs.declared.Heading.the-variants.{Headed};
-ghost use Rattle.bench.specs.Print.{block, Printable};
-ghost use Rattle.bench.specs.Run.{unlessLarge, beginning, screenSize, openingTurn, pressedTurn, nextTurn};
-ghost use Rattle.bench.specs.Turns.{stateOf, Does, Onward};
+ghost use Rattle.bench.specs.Rules.Print.{block, Printable};
+ghost use Rattle.bench.specs.Rules.Run.{unlessLarge, beginning, screenSize, openingTurn, pressedTurn, nextTurn};
+ghost use Rattle.bench.specs.Wording.Turns.{stateOf, Does, Onward};
 
 // The most bytes that a script may have, and the largest store that it may ask for.
 const LONGEST_INPUT: usize = 8192;

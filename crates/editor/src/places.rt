@@ -7,11 +7,11 @@ ghost use mathlib.Core.Path.{_≡_};
 ghost use mathlib.Core.List.{List};
 ghost use Prim.Native.Nat.{ℕ, _+_, _≤_};
 ghost use lib.ListN.{length, take, drop};
-ghost use Rattle.gap.specs.Nearest.{distance};
-ghost use Rattle.gap.specs.Layout.{ungap};
-ghost use Rattle.editor.specs.Places.{lineBeginning, lineEnding, word, isAt};
-ghost use Rattle.editor.specs.Promise.{wholeOf};
-ghost use Rattle.editor.specs.Searches.{facing};
+ghost use Rattle.gap.specs.Rules.Nearest.{distance};
+ghost use Rattle.gap.specs.Rules.Layout.{ungap};
+ghost use Rattle.editor.specs.Rules.Places.{lineBeginning, lineEnding, word, isAt};
+ghost use Rattle.editor.specs.Wording.Promise.{wholeOf};
+ghost use Rattle.editor.specs.Wording.Searches.{facing};
 
 // Place p of a text is a line beginning.
 pub fn line_beginning_at(t: &[u8], p: usize) -> bool

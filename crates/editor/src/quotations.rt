@@ -17,11 +17,11 @@ use gap::texts::hand_over;
 ghost use mathlib.Core.Path.{_≡_};
 ghost use Prim.Native.Nat.{_+_, _*_, _≤_};
 ghost use lib.ListN.{length, drop};
-ghost use Rattle.gap.specs.Sequence.{patch, zeros};
-ghost use Rattle.gap.specs.Layout.{paired, ungap};
-ghost use Rattle.editor.specs.Keys.{otherMode, quoted, bounded};
-ghost use Rattle.editor.specs.Bytes.{quarter, quarterOf};
-ghost use Rattle.editor.specs.Promise.{OnSide, EditsSide, editing, EditsQuotation, handed};
+ghost use Rattle.gap.specs.Rules.Sequence.{patch, zeros};
+ghost use Rattle.gap.specs.Rules.Layout.{paired, ungap};
+ghost use Rattle.editor.specs.Rules.Keys.{otherMode, quoted, bounded};
+ghost use Rattle.editor.specs.Rules.Bytes.{quarter, quarterOf};
+ghost use Rattle.editor.specs.Wording.Promise.{OnSide, EditsSide, editing, EditsQuotation, handed};
 
 // The quotation's quarter is lent as it stands, and its recall text goes through an array of its own, since two parts of one store
 // cannot be lent at once.

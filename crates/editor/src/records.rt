@@ -9,10 +9,10 @@ use crate::refusals::FULL;
 use gap::Direction;
 ghost use mathlib.Core.Path.{_≡_};
 ghost use Prim.Native.Nat.{_+_, _^_, _≤_, _<_};
-ghost use Rattle.editor.specs.Plain.{went};
-ghost use Rattle.editor.specs.Bytes.{unedited};
-ghost use Rattle.editor.specs.Promise.{roomOf, movedBy, fullReply, doneReply, replyOf, sizedIn, openingLengths, cleared};
-ghost use Rattle.editor.specs.Promise.{patternTaken, replacementTaken};
+ghost use Rattle.editor.specs.Rules.Plain.{went};
+ghost use Rattle.editor.specs.Rules.Bytes.{unedited};
+ghost use Rattle.editor.specs.Wording.Promise.{roomOf, movedBy, fullReply, doneReply, replyOf, sizedIn, openingLengths, cleared};
+ghost use Rattle.editor.specs.Wording.Promise.{patternTaken, replacementTaken};
 
 // ---- Reports
 

@@ -26,10 +26,10 @@ ghost use mathlib.Core.Bool.{true, not, _||_};
 ghost use Prim.Native.Nat.{_+_, _-_, _≤_};
 ghost use lib.Dec.{leb};
 ghost use lib.ListN.{length};
-ghost use Rattle.editor.specs.Plain.{done};
-ghost use Rattle.editor.specs.Keys.{searched, found, substituted, replaced, bounded};
-ghost use Rattle.editor.specs.Bytes.{quarter, plainOf};
-ghost use Rattle.editor.specs.Promise.{Sound, stores, Edits, Searchable, EditsTexts, Substitutes};
+ghost use Rattle.editor.specs.Rules.Plain.{done};
+ghost use Rattle.editor.specs.Rules.Keys.{searched, found, substituted, replaced, bounded};
+ghost use Rattle.editor.specs.Rules.Bytes.{quarter, plainOf};
+ghost use Rattle.editor.specs.Wording.Promise.{Sound, stores, Edits, Searchable, EditsTexts, Substitutes};
 
 // A search with the stored pattern: to the nearest match, or the bell.
 fn search(way: Direction, n: Lengths, text: &mut [u8], side: &[u8]) -> EditorReply

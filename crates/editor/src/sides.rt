@@ -24,12 +24,12 @@ use gap::texts::place_pair;
 ghost use mathlib.Core.Path.{_≡_};
 ghost use Prim.Native.Nat.{_≤_};
 ghost use lib.ListN.{length};
-ghost use Rattle.gap.specs.Doc.{move, times};
-ghost use Rattle.gap.specs.Layout.{gapped, ungap, IsGap};
+ghost use Rattle.gap.specs.Rules.Doc.{move, times};
+ghost use Rattle.gap.specs.Rules.Layout.{gapped, ungap, IsGap};
 ghost use Rattle.gap.specs.declared.Search.the-variants.{Reached, Nowhere};
 ghost use Rattle.editor.specs.declared.Action.the-variants.{Move, Delete};
-ghost use Rattle.editor.specs.Keys.{inserted, carried, function, recalled};
-ghost use Rattle.editor.specs.Promise.{roomOf, OnSide, EditsSide, EditsText, editing};
+ghost use Rattle.editor.specs.Rules.Keys.{inserted, carried, function, recalled};
+ghost use Rattle.editor.specs.Wording.Promise.{roomOf, OnSide, EditsSide, EditsText, editing};
 
 // A byte goes in. Whether it fits is known before anything is written.
 pub fn insert_side(b: u8, n: Sizes, text: &mut [u8]) -> SideReply

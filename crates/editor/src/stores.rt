@@ -12,8 +12,8 @@ ghost use mathlib.Core.Path.{_≡_};
 ghost use mathlib.Core.Bool.{true};
 ghost use Prim.Native.Nat.{_≤_};
 ghost use lib.ListN.{length};
-ghost use Rattle.editor.specs.Bytes.{quarter, sized, oneHalf, unquoted, editorOk};
-ghost use Rattle.editor.specs.Promise.{stores, Opens};
+ghost use Rattle.editor.specs.Rules.Bytes.{quarter, sized, oneHalf, unquoted, editorOk};
+ghost use Rattle.editor.specs.Wording.Promise.{stores, Opens};
 
 // The stores have the lengths that the table asks for.
 pub fn sized_stores(text: &[u8], recall: &[u8], side: &[u8]) -> bool

@@ -25,10 +25,10 @@ ghost use mathlib.Core.Path.{_≡_};
 ghost use mathlib.Core.Bool.{true};
 ghost use Prim.Native.Nat.{_*_, _≤_};
 ghost use lib.ListN.{length};
-ghost use Rattle.editor.specs.Bytes.{quarter, sized};
-ghost use Rattle.editor.specs.Promise.{stores};
-ghost use Rattle.window.specs.Core.{rowsAndColumns, tabled, isSession, refusal, openedText, opened, keyed};
-ghost use Rattle.window.specs.Calls.{Texts, lent, called, unopenedReply, turnedDownReply, Shows};
+ghost use Rattle.editor.specs.Rules.Bytes.{quarter, sized};
+ghost use Rattle.editor.specs.Wording.Promise.{stores};
+ghost use Rattle.window.specs.Rules.Core.{rowsAndColumns, tabled, isSession, refusal, openedText, opened, keyed};
+ghost use Rattle.window.specs.Wording.Calls.{Texts, lent, called, unopenedReply, turnedDownReply, Shows};
 
 // ---- Sizes and sessions
 

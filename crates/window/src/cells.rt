@@ -8,9 +8,9 @@ ghost use mathlib.Core.Bool.{not, true, false};
 ghost use Prim.Native.Nat.{_+_, _-_, _^_, _≤_, _<_};
 ghost use lib.ListN.{length, replicate};
 ghost use lib.Dec.{eqb};
-ghost use Rattle.gap.specs.Sequence.{every, sameBytes};
-ghost use Rattle.gap.specs.Lines.{newline};
-ghost use Rattle.window.specs.Painter.{above, over, cellOf, OnRow, penBelow, lineEnd, paint, Easel, sheet};
+ghost use Rattle.gap.specs.Rules.Sequence.{every, sameBytes};
+ghost use Rattle.gap.specs.Rules.Lines.{newline};
+ghost use Rattle.window.specs.Wording.Painter.{above, over, cellOf, OnRow, penBelow, lineEnd, paint, Easel, sheet};
 
 // A run of cells is written; answers whether one was another before.
 fn put_run(cells: &mut [u8], run: &[u8]) -> bool

@@ -17,11 +17,11 @@ use editor::refusals::SESSION;
 use editor::refusals::SIZE;
 use gap::numbers::bit_of;
 ghost use mathlib.Core.Path.{_≡_};
-ghost use Rattle.window.specs.Calls.{lent};
-ghost use Rattle.window.specs.Core.{refusal};
-ghost use Rattle.window.specs.Sending.{sending};
-ghost use Rattle.window.specs.Writing.{outcomeOf};
-ghost use Rattle.window.specs.Host.{modeOf, sessionFrom, modeNumber, recordFrom, numbersOf, saidOf, given, hostOpened, hostKeyed};
+ghost use Rattle.window.specs.Wording.Calls.{lent};
+ghost use Rattle.window.specs.Rules.Core.{refusal};
+ghost use Rattle.window.specs.Rules.Sending.{sending};
+ghost use Rattle.window.specs.Wording.Writing.{outcomeOf};
+ghost use Rattle.window.specs.Rules.Host.{modeOf, sessionFrom, modeNumber, recordFrom, numbersOf, saidOf, given, hostOpened, hostKeyed};
 
 // The session record in document order: lengths of the document left and right of its cursor, of the quotation, of both halves of the
 // document's recall text and of the quotation's, of both halves of the replacement, of the pattern; mode; offsets; rows and columns.

@@ -4,7 +4,7 @@ use editor::Key;
 use editor::Place;
 use gap::Direction;
 ghost use mathlib.Core.Path.{_≡_};
-ghost use Rattle.window.specs.Host.{insertFrom, directionFrom, actionFrom, placeFrom, functionFrom, findFrom, keyFrom};
+ghost use Rattle.window.specs.Rules.Host.{insertFrom, directionFrom, actionFrom, placeFrom, functionFrom, findFrom, keyFrom};
 
 fn insert_key(b: usize) -> Key
     ensures { λ k. ⌜ k ≡ insertFrom b ⌝ }

@@ -16,14 +16,14 @@ ghost use mathlib.Core.Path.{_≡_};
 ghost use mathlib.Core.Bool.{true, false};
 ghost use Prim.Native.Nat.{_+_, _-_, _≤_, _<_};
 ghost use lib.ListN.{length};
-ghost use Rattle.gap.specs.Lines.{newline, newlines};
-ghost use Rattle.window.specs.Painter.{above, paint, finishPaint, begun, Easel, Canvas, sheet, RunEnd, LineStart};
+ghost use Rattle.gap.specs.Rules.Lines.{newline, newlines};
+ghost use Rattle.window.specs.Wording.Painter.{above, paint, finishPaint, begun, Easel, Canvas, sheet, RunEnd, LineStart};
 ghost use mathlib.Core.List.{[], _∷_};
-ghost use Rattle.gap.specs.Doc.{content};
-ghost use Rattle.gap.specs.Layout.{ungap};
+ghost use Rattle.gap.specs.Rules.Doc.{content};
+ghost use Rattle.gap.specs.Rules.Layout.{ungap};
 ghost use Rattle.editor.specs.declared.Mode.the-variants.{Quoted};
-ghost use Rattle.window.specs.Window.{virtualIn, visible};
-ghost use Rattle.window.specs.Calls.{Texts, virtualHeld, Refreshed};
+ghost use Rattle.window.specs.Rules.Window.{virtualIn, visible};
+ghost use Rattle.window.specs.Wording.Calls.{Texts, virtualHeld, Refreshed};
 
 // Where the run from index i on ends: at a newline, or at the end.
 fn run_end(t: &[u8], i: usize) -> usize

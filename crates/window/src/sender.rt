@@ -10,9 +10,9 @@ use editor::refusals::TEXT;
 use gap::Search;
 use gap::sound::bad_cell;
 ghost use mathlib.Core.Path.{_≡_};
-ghost use Rattle.window.specs.Sequences.{sentScreen};
-ghost use Rattle.window.specs.Sending.{rowsOn, cursorOn, sendable, sentInto, sending};
-ghost use Rattle.window.specs.Writing.{RowsIn, outcomeOf};
+ghost use Rattle.window.specs.Rules.Sequences.{sentScreen};
+ghost use Rattle.window.specs.Rules.Sending.{rowsOn, cursorOn, sendable, sentInto, sending};
+ghost use Rattle.window.specs.Wording.Writing.{RowsIn, outcomeOf};
 
 // What a terminal is brought up to date with: the named rows, first and last, and the cursor, as a call answers them.
 pub struct Update {

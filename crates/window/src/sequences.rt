@@ -5,9 +5,9 @@ use gap::writers::put;
 ghost use mathlib.Core.Path.{_≡_};
 ghost use Prim.Native.Nat.{_+_, _*_, _≤_, _<_};
 ghost use lib.ListN.{length};
-ghost use Rattle.gap.specs.Written.{Wrote};
-ghost use Rattle.window.specs.Sequences.{sentSpot, sentRow, sentRows, rowCount, sentColumn};
-ghost use Rattle.window.specs.Writing.{RowsIn, rowsSize, sentSize};
+ghost use Rattle.gap.specs.Wording.Written.{Wrote};
+ghost use Rattle.window.specs.Rules.Sequences.{sentSpot, sentRow, sentRows, rowCount, sentColumn};
+ghost use Rattle.window.specs.Wording.Writing.{RowsIn, rowsSize, sentSize};
 
 // ---- How long
 

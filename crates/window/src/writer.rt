@@ -6,9 +6,9 @@ ghost use mathlib.Core.Path.{_≡_};
 ghost use mathlib.Core.List.{_++_};
 ghost use Prim.Native.Nat.{_+_, _≤_};
 ghost use lib.ListN.{length};
-ghost use Rattle.gap.specs.Written.{Wrote};
-ghost use Rattle.window.specs.Sequences.{sentSpot, sentRows};
-ghost use Rattle.window.specs.Writing.{RowsIn, filled};
+ghost use Rattle.gap.specs.Wording.Written.{Wrote};
+ghost use Rattle.window.specs.Rules.Sequences.{sentSpot, sentRows};
+ghost use Rattle.window.specs.Wording.Writing.{RowsIn, filled};
 
 // The lent buffer, and how far it is filled.
 pub struct Writer<'a> {

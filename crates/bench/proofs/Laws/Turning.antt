@@ -7,21 +7,21 @@ use native.Mathlib.Numerals.{add-one}
 use native.Mathlib.Omega.{arith}
 use lib.Dec.{eqb}
 use lib.ListN.{length}
-use Rattle.gap.specs.Fields.{lineNumber}
-use Rattle.gap.specs.Written.{Wrote}
+use Rattle.gap.specs.Rules.Fields.{lineNumber}
+use Rattle.gap.specs.Wording.Written.{Wrote}
 use Rattle.gap.proofs.Laws.Writers.{wrote-none, wrote-length}
 use Rattle.editor.specs.declared.Key.{Key}
 use Rattle.window.specs.declared.Session.{Session}
 use Rattle.window.specs.declared.Reply.{Reply}
-use Rattle.window.specs.Core.{Lent, opened, keyed}
-use Rattle.window.specs.Calls.{lent, called}
+use Rattle.window.specs.Rules.Core.{Lent, opened, keyed}
+use Rattle.window.specs.Wording.Calls.{lent, called}
 use Rattle.bench.specs.Words.{Header, Pressed, Finished, Unknown}
 use Rattle.bench.specs.declared.Turn.{Turn}
-use Rattle.bench.specs.Script.{readingAt}
-use Rattle.bench.specs.Print.{block, scriptLine}
-use Rattle.bench.specs.Run.{laidOut, Turned, openingTurn, pressedTurn, read, nextTurn}
+use Rattle.bench.specs.Rules.Script.{readingAt}
+use Rattle.bench.specs.Rules.Print.{block, scriptLine}
+use Rattle.bench.specs.Rules.Run.{laidOut, Turned, openingTurn, pressedTurn, read, nextTurn}
 use Rattle.bench.proofs.Laws.Scripts.{pressed-goes-on}
-use Rattle.bench.specs.Turns.{stateOf, Does, Onward}
+use Rattle.bench.specs.Wording.Turns.{stateOf, Does, Onward}
 
 -- ---- Turns
 

@@ -8,10 +8,10 @@ use native.Mathlib.Omega.{arith}
 use borrow.Author.Tests.{leb-true}
 use lib.ListN.{length, take, drop, length-append, length-take, length-drop}
 use lib.Seq.{take-take}
-use Rattle.gap.specs.Sequence.{part, zeros}
-use Rattle.gap.specs.Doc.{Doc, empty, splice}
-use Rattle.gap.specs.Nearest.{distance}
-use Rattle.gap.specs.Layout.{gapped, paired, ungap, unpair, IsGap}
+use Rattle.gap.specs.Rules.Sequence.{part, zeros}
+use Rattle.gap.specs.Rules.Doc.{Doc, empty, splice}
+use Rattle.gap.specs.Rules.Nearest.{distance}
+use Rattle.gap.specs.Rules.Layout.{gapped, paired, ungap, unpair, IsGap}
 use Rattle.gap.proofs.Laws.Tests.{and-left, cond-true, cond-false}
 use Rattle.gap.proofs.Laws.Compared.{begins-fits}
 use Rattle.gap.proofs.Laws.Doc.{splice-twice}
@@ -20,10 +20,10 @@ use Rattle.gap.proofs.Laws.Moves.{gap-is}
 use Rattle.editor.specs.Words.{Direction, Left, Search, Move, Main, Sizes, Lengths, Report}
 use Rattle.editor.specs.declared.SideReply.{SideReply}
 use Rattle.editor.specs.declared.EditorReply.{EditorReply}
-use Rattle.editor.specs.Plain.{Side, Plain, quiet, rang, Did, reporting, within, done}
-use Rattle.editor.specs.Keys.{carried, withSide, matches, searched, exchanged, substituted, fits, bounded}
-use Rattle.editor.specs.Bytes.{Stores, sizesOf, plainOf, editedTo}
-use Rattle.editor.specs.Promise.{Sound, stores, doneReply, written, EditsSide, replyOf}
+use Rattle.editor.specs.Rules.Plain.{Side, Plain, quiet, rang, Did, reporting, within, done}
+use Rattle.editor.specs.Rules.Keys.{carried, withSide, matches, searched, exchanged, substituted, fits, bounded}
+use Rattle.editor.specs.Rules.Bytes.{Stores, sizesOf, plainOf, editedTo}
+use Rattle.editor.specs.Wording.Promise.{Sound, stores, doneReply, written, EditsSide, replyOf}
 use Rattle.editor.proofs.Laws.Sound.{SoundPlain}
 use Rattle.editor.proofs.Laws.States.{sound-fits, searched-sound}
 use Rattle.editor.proofs.Laws.SideEdits.{landed, not-moved}

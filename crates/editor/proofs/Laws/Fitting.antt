@@ -6,9 +6,9 @@ use native.Mathlib.Omega.{arith}
 use lib.ListN.{length}
 use Rattle.editor.specs.Words.{Mode, Main, Quoted, Lengths}
 use Rattle.gap.proofs.Laws.Layout.{is-pair}
-use Rattle.editor.specs.Plain.{Plain}
-use Rattle.editor.specs.Bytes.{Stores, quarter, quarterOf, lengthsOf, plainOf}
-use Rattle.editor.specs.Promise.{Sound, patternTaken, Searchable}
+use Rattle.editor.specs.Rules.Plain.{Plain}
+use Rattle.editor.specs.Rules.Bytes.{Stores, quarter, quarterOf, lengthsOf, plainOf}
+use Rattle.editor.specs.Wording.Promise.{Sound, patternTaken, Searchable}
 use Rattle.editor.proofs.Laws.Quarters.{length-quarter}
 use Rattle.editor.proofs.Laws.Session.{measured, passed}
 use Rattle.editor.proofs.Laws.Replies.{on-side}

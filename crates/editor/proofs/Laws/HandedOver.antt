@@ -8,19 +8,19 @@ use native.Mathlib.Nat.{zero-mul}
 use native.Mathlib.Omega.{arith}
 use lib.ListN.{length, take, length-append}
 use lib.Seq.{length-take-le}
-use Rattle.gap.specs.Sequence.{part, patch, zeros}
-use Rattle.gap.specs.Doc.{Doc, empty, content}
-use Rattle.gap.specs.Layout.{gapped, paired, ungap}
+use Rattle.gap.specs.Rules.Sequence.{part, patch, zeros}
+use Rattle.gap.specs.Rules.Doc.{Doc, empty, content}
+use Rattle.gap.specs.Rules.Layout.{gapped, paired, ungap}
 use Rattle.gap.proofs.Laws.Tests.{cond-true}
 use borrow.Rule.Slice.PartMut.{midOf, putMid}
 use Rattle.gap.proofs.Laws.Sequence.{length-part, length-zeros}
 use Rattle.gap.proofs.Laws.Runs.{patch-middle, part-back, part-lent}
 use Rattle.gap.proofs.Laws.Layout.{length-gapped, length-paired}
 use Rattle.editor.specs.Words.{Direction, Mode, Main, Quoted, Lengths}
-use Rattle.editor.specs.Plain.{Plain, Did, done}
-use Rattle.editor.specs.Keys.{withPattern, searched, found, withReplacement, substituted, replaced, fits, bounded}
-use Rattle.editor.specs.Bytes.{Stores, Edited, quarterOf, alone, lengthsOf, storesOf, plainOf, editedTo}
-use Rattle.editor.specs.Promise.{Sound, stores, noSizes, patternTaken, replacementTaken, handed}
+use Rattle.editor.specs.Rules.Plain.{Plain, Did, done}
+use Rattle.editor.specs.Rules.Keys.{withPattern, searched, found, withReplacement, substituted, replaced, fits, bounded}
+use Rattle.editor.specs.Rules.Bytes.{Stores, Edited, quarterOf, alone, lengthsOf, storesOf, plainOf, editedTo}
+use Rattle.editor.specs.Wording.Promise.{Sound, stores, noSizes, patternTaken, replacementTaken, handed}
 use Rattle.editor.proofs.Laws.Quotation.{no-quotation, copied-whole}
 use Rattle.editor.proofs.Laws.Session.{measured}
 use Rattle.editor.proofs.Laws.Sound.{SoundPlain}

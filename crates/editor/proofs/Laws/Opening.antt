@@ -7,13 +7,13 @@ use native.Mathlib.Nat.{sub-zero}
 use native.Mathlib.Omega.{arith}
 use lib.ListN.{length, take}
 use lib.Seq.{length-take-le}
-use Rattle.gap.specs.Sequence.{zeros}
-use Rattle.gap.specs.Doc.{empty}
-use Rattle.gap.specs.Layout.{gapped, paired}
+use Rattle.gap.specs.Rules.Sequence.{zeros}
+use Rattle.gap.specs.Rules.Doc.{empty}
+use Rattle.gap.specs.Rules.Layout.{gapped, paired}
 use Rattle.gap.proofs.Laws.Runs.{zeros-both}
 use Rattle.editor.specs.Words.{Lengths}
-use Rattle.editor.specs.Bytes.{Stores, quarter, sized, lengthsOf, storesOf}
-use Rattle.editor.specs.Promise.{stores, Opens, openingLengths}
+use Rattle.editor.specs.Rules.Bytes.{Stores, quarter, sized, lengthsOf, storesOf}
+use Rattle.editor.specs.Wording.Promise.{stores, Opens, openingLengths}
 use Rattle.editor.proofs.Laws.Quotation.{no-quotation}
 use Rattle.editor.proofs.Laws.Session.{measured}
 

@@ -11,18 +11,18 @@ use lib.ListN.{length, take, drop, getD, length-append, length-drop, drop-of-len
 use lib.Seq.{take-suc, drop-cons, length-take-le, drop-append-add}
 use borrow.Author.Tests.{eq-eqb, ne-eqb, leb-true, leb-false, lt-ltb, le-ltb}
 use borrow.Rule.Slice.PartAt.{part-to-end}
-use Rattle.gap.specs.Sequence.{lastOf}
-use Rattle.gap.specs.Doc.{Doc, room, move, times}
-use Rattle.gap.specs.Nearest.{nearest, distance}
-use Rattle.gap.specs.Layout.{ungap}
+use Rattle.gap.specs.Rules.Sequence.{lastOf}
+use Rattle.gap.specs.Rules.Doc.{Doc, room, move, times}
+use Rattle.gap.specs.Rules.Nearest.{nearest, distance}
+use Rattle.gap.specs.Rules.Layout.{ungap}
 use Rattle.gap.proofs.Laws.Tests.{decided, or-right, cond-true, cond-false}
 use Rattle.gap.proofs.Laws.Doc.{back-append, moves-left, moves-right, room-moves}
 use Rattle.gap.proofs.Laws.Nearest.{least-reached, none-nowhere, nearest-same}
 use Rattle.editor.specs.Words.{Direction, Left, Right, Search}
 use Rattle.editor.specs.Words.{Place, Character, Word, LineBeginning, LineEnding, Document}
-use Rattle.editor.specs.Places.{isNewline, blank, emptyOr, isEmpty, lineBeginning, lineEnding, word, documentEnd, isAt}
-use Rattle.editor.specs.Promise.{wholeOf}
-use Rattle.editor.specs.Searches.{lowest, facing}
+use Rattle.editor.specs.Rules.Places.{isNewline, blank, emptyOr, isEmpty, lineBeginning, lineEnding, word, documentEnd, isAt}
+use Rattle.editor.specs.Wording.Promise.{wholeOf}
+use Rattle.editor.specs.Wording.Searches.{lowest, facing}
 
 -- The cursor at place p of a text.
 abbrev pub cutAt : ℕ → List ℕ → Doc

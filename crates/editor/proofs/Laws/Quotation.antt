@@ -6,16 +6,16 @@ use native.Mathlib.Nat.{zero-mul, one-mul, sub-zero}
 use native.Mathlib.Omega.{arith}
 use lib.ListN.{length, take, drop, length-append, take-append-drop}
 use lib.Seq.{length-take-le, take-all, take-at, drop-at, drop-drop}
-use Rattle.gap.specs.Sequence.{part, patch, zeros}
-use Rattle.gap.specs.Doc.{empty}
-use Rattle.gap.specs.Layout.{gapped, paired}
+use Rattle.gap.specs.Rules.Sequence.{part, patch, zeros}
+use Rattle.gap.specs.Rules.Doc.{empty}
+use Rattle.gap.specs.Rules.Layout.{gapped, paired}
 use Rattle.gap.proofs.Laws.Sequence.{length-zeros}
 use Rattle.gap.proofs.Laws.Runs.{zeros-both, part-middle, patch-middle}
 use Rattle.editor.specs.Words.{Sizes}
 use Rattle.editor.specs.declared.SideReply.{SideReply}
-use Rattle.editor.specs.Plain.{Side, Did}
-use Rattle.editor.specs.Bytes.{quarterOf}
-use Rattle.editor.specs.Promise.{written, sideHeld, EditsSide}
+use Rattle.editor.specs.Rules.Plain.{Side, Did}
+use Rattle.editor.specs.Rules.Bytes.{quarterOf}
+use Rattle.editor.specs.Wording.Promise.{written, sideHeld, EditsSide}
 use Rattle.editor.proofs.Laws.Quarters.{length-quarter}
 
 -- A store is its first two quarters and what stands behind them.

@@ -8,17 +8,17 @@ use Prim.Native.Nat.{ℕ, _+_, _-_, _*_, _<_, _≤_}
 use native.Mathlib.Omega.{arith}
 use lib.ListN.{length, take, drop, length-append}
 use lib.Seq.{drop-at}
-use Rattle.gap.specs.Sequence.{begins}
-use Rattle.gap.specs.Doc.{content}
-use Rattle.gap.specs.Layout.{ungap}
+use Rattle.gap.specs.Rules.Sequence.{begins}
+use Rattle.gap.specs.Rules.Doc.{content}
+use Rattle.gap.specs.Rules.Layout.{ungap}
 use Rattle.gap.proofs.Laws.Tests.{decided}
 use Rattle.editor.specs.Words.{Mode, Main, Quoted, Lengths, Replace}
-use Rattle.editor.specs.Refusals.{FULL}
-use Rattle.editor.specs.Plain.{Plain, refused}
-use Rattle.editor.specs.Keys.{matches, withReplacement, substituted, replaced, soundKey, pressed, key, fits, bounded}
-use Rattle.editor.specs.Bytes.{Stores, plainOf, unedited, editedTo}
+use Rattle.editor.specs.Rules.Refusals.{FULL}
+use Rattle.editor.specs.Rules.Plain.{Plain, refused}
+use Rattle.editor.specs.Rules.Keys.{matches, withReplacement, substituted, replaced, soundKey, pressed, key, fits, bounded}
+use Rattle.editor.specs.Rules.Bytes.{Stores, plainOf, unedited, editedTo}
 use Rattle.editor.specs.declared.EditorReply.{EditorReply}
-use Rattle.editor.specs.Promise.{Sound, replacementTaken}
+use Rattle.editor.specs.Wording.Promise.{Sound, replacementTaken}
 use Rattle.editor.proofs.Laws.Outcomes.{full-refused}
 use Rattle.editor.proofs.Laws.HandedOver.{Holds}
 use Rattle.editor.proofs.Laws.Fitting.{Sized, sizes, Fitting}

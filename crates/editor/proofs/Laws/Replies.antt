@@ -8,19 +8,19 @@ use lib.Dec.{leb}
 use lib.ListN.{length, drop, length-append}
 use lib.Seq.{drop-at}
 use borrow.Author.Tests.{le-leb}
-use Rattle.gap.specs.Sequence.{patch, zeros}
-use Rattle.gap.specs.Doc.{empty, content}
-use Rattle.gap.specs.Layout.{gapped, paired}
+use Rattle.gap.specs.Rules.Sequence.{patch, zeros}
+use Rattle.gap.specs.Rules.Doc.{empty, content}
+use Rattle.gap.specs.Rules.Layout.{gapped, paired}
 use Rattle.gap.proofs.Laws.Tests.{cond-true, cond-false}
 use Rattle.gap.proofs.Laws.Layout.{length-gapped, length-paired, is-gap, is-pair}
 use Rattle.editor.specs.Words.{Mode, Main, Quoted, Sizes, Lengths, Report}
 use Rattle.editor.specs.declared.SideReply.{SideReply}
 use Rattle.editor.specs.declared.EditorReply.{EditorReply}
-use Rattle.editor.specs.Refusals.{FULL}
-use Rattle.editor.specs.Plain.{Side, emptySide, Plain, quiet, Did, within, refused, done}
-use Rattle.editor.specs.Keys.{sideOf, withSide, onSide, otherMode, quoted, fits, bounded}
-use Rattle.editor.specs.Bytes.{Stores, Edited, quarterOf, alone, sizesOf, plainOf, lengthsOf, storesOf, unedited, editedTo}
-use Rattle.editor.specs.Promise.{OnSide, sideHeld, SideEdited, written, EditsSide, Sound, stores, cleared, sizedIn, replyOf}
+use Rattle.editor.specs.Rules.Refusals.{FULL}
+use Rattle.editor.specs.Rules.Plain.{Side, emptySide, Plain, quiet, Did, within, refused, done}
+use Rattle.editor.specs.Rules.Keys.{sideOf, withSide, onSide, otherMode, quoted, fits, bounded}
+use Rattle.editor.specs.Rules.Bytes.{Stores, Edited, quarterOf, alone, sizesOf, plainOf, lengthsOf, storesOf, unedited, editedTo}
+use Rattle.editor.specs.Wording.Promise.{OnSide, sideHeld, SideEdited, written, EditsSide, Sound, stores, cleared, sizedIn, replyOf}
 use Rattle.gap.proofs.Laws.Holdable.{content-fits}
 use Rattle.editor.proofs.Laws.Sound.{SoundPlain}
 use Rattle.editor.proofs.Laws.Quarters.{length-quarter}

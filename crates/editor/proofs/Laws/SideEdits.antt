@@ -8,22 +8,22 @@ use native.Mathlib.Omega.{arith}
 use lib.ListN.{length, length-append, length-take, length-drop}
 use lib.Seq.{length-take-le}
 use borrow.Author.Tests.{le-leb, lt-leb}
-use Rattle.gap.specs.Sequence.{part, zeros}
-use Rattle.gap.specs.Doc.{Doc, content, room, move, delete, times, passed, removed, splice}
-use Rattle.gap.specs.Nearest.{distance}
-use Rattle.gap.specs.Layout.{gapped, paired, ungap, unpair, IsGap}
+use Rattle.gap.specs.Rules.Sequence.{part, zeros}
+use Rattle.gap.specs.Rules.Doc.{Doc, content, room, move, delete, times, passed, removed, splice}
+use Rattle.gap.specs.Rules.Nearest.{distance}
+use Rattle.gap.specs.Rules.Layout.{gapped, paired, ungap, unpair, IsGap}
 use Rattle.gap.proofs.Laws.Tests.{cond-true, cond-false}
 use Rattle.gap.proofs.Laws.Sequence.{length-part}
 use Rattle.gap.proofs.Laws.Doc.{deletions-left, deletions-right, insertions, length-moves, room-moves, room-behind}
 use Rattle.gap.proofs.Laws.Layout.{length-left, length-right}
 use Rattle.editor.specs.Words.{Direction, Left, Right, Search, Reached, Nowhere, Action, Move, Delete, Place, Sizes, Report}
 use Rattle.editor.specs.declared.SideReply.{SideReply}
-use Rattle.editor.specs.Plain.{Side, quiet, rang, went, Did, reporting}
+use Rattle.editor.specs.Rules.Plain.{Side, quiet, rang, went, Did, reporting}
 use Rattle.gap.proofs.Laws.Nearest.{reached-least}
-use Rattle.editor.specs.Keys.{inserted, carried, function, recalled}
-use Rattle.editor.specs.Places.{isAt}
-use Rattle.editor.specs.Bytes.{sizesOf}
-use Rattle.editor.specs.Promise.{roomOf, movedBy, OnSide, sideHeld, fullReply, doneReply, written, EditsSide}
+use Rattle.editor.specs.Rules.Keys.{inserted, carried, function, recalled}
+use Rattle.editor.specs.Rules.Places.{isAt}
+use Rattle.editor.specs.Rules.Bytes.{sizesOf}
+use Rattle.editor.specs.Wording.Promise.{roomOf, movedBy, OnSide, sideHeld, fullReply, doneReply, written, EditsSide}
 
 module _ (n : Sizes) (text recall : List ℕ) (did : Did Side) where
   abbrev finished : Doc

@@ -5,15 +5,15 @@ use Prim.Native.Nat.{ℕ}
 use native.Mathlib.Nat.{sub-zero}
 use lib.ListN.{take-append-drop}
 use lib.Seq.{take-length}
-use Rattle.gap.specs.Doc.{Doc, empty, content, delete, times, passed, splice, removed}
-use Rattle.gap.specs.Nearest.{distance}
+use Rattle.gap.specs.Rules.Doc.{Doc, empty, content, delete, times, passed, splice, removed}
+use Rattle.gap.specs.Rules.Nearest.{distance}
 use Rattle.gap.proofs.Laws.Doc.{same-texts, deletions-left, deletions-right, insertions, content-moves}
 use Rattle.editor.specs.Words.{Direction, Left, Right, Search, Reached, Nowhere, Move, Delete, Place, Mode, Main, Quoted}
 use Rattle.editor.specs.Words.{Function, Recall, Find}
-use Rattle.editor.specs.Places.{isAt}
-use Rattle.editor.specs.Plain.{Side, Plain, quiet, Did, reporting, within, done}
-use Rattle.editor.specs.Keys.{soundKey, carried, function, recalled, sideOf, withSide, onSide}
-use Rattle.editor.specs.Keys.{withPattern, matches, searched, found, pressed, fits, key}
+use Rattle.editor.specs.Rules.Places.{isAt}
+use Rattle.editor.specs.Rules.Plain.{Side, Plain, quiet, Did, reporting, within, done}
+use Rattle.editor.specs.Rules.Keys.{soundKey, carried, function, recalled, sideOf, withSide, onSide}
+use Rattle.editor.specs.Rules.Keys.{withPattern, matches, searched, found, pressed, fits, key}
 use Rattle.editor.proofs.Laws.Sound.{SoundPlain}
 use Rattle.editor.proofs.Laws.Outcomes.{accepted}
 use Rattle.editor.proofs.Laws.States.{side-with, on-side-twice, sound-fits}

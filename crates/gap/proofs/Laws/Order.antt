@@ -7,7 +7,7 @@ use mathlib.Core.List.{List, [], _∷_, _++_}
 use Prim.Native.Nat.{ℕ}
 use lib.Dec.{eqb}
 use borrow.Author.Tests.{eqb-false, not-true}
-use Rattle.gap.specs.Checks.{Check, check, firstFailed, Passing}
+use Rattle.gap.specs.Rules.Checks.{Check, check, firstFailed, Passing}
 use Rattle.gap.proofs.Laws.Tests.{and-left, and-right}
 
 -- The number is neither 0 nor any of the list's.

@@ -9,7 +9,7 @@ use lib.ListN.{getD-replicate, replicate-append-replicate}
 use lib.Seq.{length-take-le, take-all, take-at, take-suc, take-length, take-append-seam}
 use lib.Seq.{drop-at, drop-cons, drop-length, drop-drop, append-snoc, set-at, set-split}
 use borrow.Rule.Slice.PartMut.{midOf, putMid}
-use Rattle.gap.specs.Sequence.{part, patch, zeros}
+use Rattle.gap.specs.Rules.Sequence.{part, patch, zeros}
 use Rattle.gap.proofs.Laws.Sequence.{length-part, length-zeros}
 
 -- The first i bytes of a run were copied to the front of a store that was `old` and now is `s`.

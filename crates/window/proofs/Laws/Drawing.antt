@@ -9,12 +9,12 @@ use lib.ListN.{length, drop, getD, take-append-drop, drop-of-length-le}
 use lib.Seq.{drop-cons, drop-drop}
 use borrow.Author.Tests.{ltb-false, le-ltb, le-leb, lt-leb}
 use borrow.Rule.Slice.PartMut.{midOf}
-use Rattle.gap.specs.Sequence.{part}
-use Rattle.gap.specs.Doc.{times}
-use Rattle.gap.specs.Lines.{newline, Unbroken}
+use Rattle.gap.specs.Rules.Sequence.{part}
+use Rattle.gap.specs.Rules.Doc.{times}
+use Rattle.gap.specs.Rules.Lines.{newline, Unbroken}
 use Rattle.gap.proofs.Laws.Sequence.{length-part}
 use Rattle.window.specs.Words.{Frame}
-use Rattle.window.specs.Painter.{Sheet, above, lineEnd, paint, finishPaint, RunEnd, Easel}
+use Rattle.window.specs.Wording.Painter.{Sheet, above, lineEnd, paint, finishPaint, RunEnd, Easel}
 use Rattle.window.proofs.Laws.Paint.{InRow, in-row, paint-append, paint-over, easel-on, easel-less}
 use Rattle.window.proofs.Laws.PaintedRun.{Run}
 use Rattle.window.proofs.Laws.DrawnCells.{Inside, row-end, run-row}

@@ -12,14 +12,14 @@ use lib.ListN.{length, take, drop, set, getD, replicate, drop-of-length-le, leng
 use lib.Seq.{drop-cons, drop-length, length-take-le, getD-at}
 use borrow.Author.Tests.{ltb-true, ltb-false, le-ltb, lt-leb}
 use borrow.Rule.Slice.PartMut.{midOf, putMid}
-use Rattle.gap.specs.Sequence.{sameBytes, part, patch}
+use Rattle.gap.specs.Rules.Sequence.{sameBytes, part, patch}
 use Rattle.gap.proofs.Laws.Tests.{decided, cond-false}
 use Rattle.gap.proofs.Laws.Sequence.{length-part}
 use Rattle.gap.proofs.Laws.Runs.{Copied, copied-none, copied-more, copied-all}
 use Rattle.window.specs.Words.{Frame}
 use Rattle.window.specs.declared.Pen.{Pen}
-use Rattle.window.specs.Painter.{Sheet, sheet, above, over, across, nextCell, cellOf, OnRow, Easel}
-use Rattle.window.specs.Painter.{put, along, penBelow, rowBelow, lineEnd, paint}
+use Rattle.window.specs.Wording.Painter.{Sheet, sheet, above, over, across, nextCell, cellOf, OnRow, Easel}
+use Rattle.window.specs.Wording.Painter.{put, along, penBelow, rowBelow, lineEnd, paint}
 use Rattle.window.proofs.Laws.Paint.{InRow, in-row, row-fits, blanks}
 use Rattle.window.proofs.Laws.PaintedRun.{Run, lowest, highest, paint-run-none, paint-run}
 

@@ -9,17 +9,17 @@ use native.Mathlib.Omega.{arith}
 use lib.Dec.{eqb, leb}
 use lib.ListN.{length, length-append, length-take}
 use borrow.Author.Tests.{leb-true, eq-eqb}
-use Rattle.gap.specs.Doc.{Doc}
-use Rattle.gap.specs.Layout.{ungap}
+use Rattle.gap.specs.Rules.Doc.{Doc}
+use Rattle.gap.specs.Rules.Layout.{ungap}
 use Rattle.gap.proofs.Laws.Tests.{and-left, and-right, and-both, cond-true, cond-false}
 use Rattle.gap.proofs.Laws.Layout.{length-gapped}
 use Rattle.editor.specs.declared.EditorReply.{EditorReply}
-use Rattle.editor.specs.Refusals.{SIZE, SESSION}
-use Rattle.editor.specs.Plain.{Plain, Did, Outcome, refused, done}
+use Rattle.editor.specs.Rules.Refusals.{SIZE, SESSION}
+use Rattle.editor.specs.Rules.Plain.{Plain, Did, Outcome, refused, done}
 use Rattle.gap.proofs.Laws.Lines.{newlines-fit, since-fits}
-use Rattle.editor.specs.Keys.{key}
-use Rattle.editor.specs.Bytes.{Stores, quarter, quarterOf, sized, plainOf, lengthsOf, storesOf, editorOk, editedTo}
-use Rattle.editor.specs.Promise.{Sound, stores}
+use Rattle.editor.specs.Rules.Keys.{key}
+use Rattle.editor.specs.Rules.Bytes.{Stores, quarter, quarterOf, sized, plainOf, lengthsOf, storesOf, editorOk, editedTo}
+use Rattle.editor.specs.Wording.Promise.{Sound, stores}
 use Rattle.editor.proofs.Laws.Fitting.{fitting}
 use Rattle.editor.proofs.Theorems.Layouts.{plain-of-encoded, session-encoded, encoded-sized, encoded-ok}
 use Rattle.editor.proofs.Theorems.Sessions.{key-keeps}
@@ -28,11 +28,11 @@ use Rattle.window.specs.Words.{Lengths, Frame, Session, Key, Mode, Main,
 use Rattle.window.specs.declared.Spot.{Spot}
 use Rattle.window.specs.declared.Rows.{Rows}
 use Rattle.window.specs.declared.Reply.{Reply}
-use Rattle.window.specs.Window.{virtual, virtualIn, rowOf, columnOf, window, visible, policy}
-use Rattle.window.specs.Core.{Lent, Called, T, rowsAndColumns, tabled, isSession, shown, finished, keyed, held, lentOf}
-use Rattle.window.specs.Rows.{firstRow, lastRow}
-use Rattle.window.specs.Painter.{Canvas}
-use Rattle.window.specs.Calls.{spotIn, visibleAt, policyAt, Texts, virtualHeld, Refreshed, lent, called, turnedDownReply, reported}
+use Rattle.window.specs.Rules.Window.{virtual, virtualIn, rowOf, columnOf, window, visible, policy}
+use Rattle.window.specs.Rules.Core.{Lent, Called, T, rowsAndColumns, tabled, isSession, shown, finished, keyed, held, lentOf}
+use Rattle.window.specs.Rules.Rows.{firstRow, lastRow}
+use Rattle.window.specs.Wording.Painter.{Canvas}
+use Rattle.window.specs.Wording.Calls.{spotIn, visibleAt, policyAt, Texts, virtualHeld, Refreshed, lent, called, turnedDownReply, reported}
 use Rattle.window.proofs.Laws.Window.{policy-visible, Visible, visible-says}
 use Rattle.window.proofs.Laws.Views.{tabled-facts, session-view}
 use Rattle.window.proofs.Theorems.Sessions.{session-keyed}

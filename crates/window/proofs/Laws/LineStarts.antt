@@ -9,9 +9,9 @@ use lib.Dec.{eqb}
 use lib.ListN.{length, take, length-append}
 use lib.Seq.{take-take, take-length, length-take-le, take-append-seam, take-append-add}
 use borrow.Author.Tests.{eqb-true}
-use Rattle.gap.specs.Lines.{newline, newlines, sinceAfter, since}
+use Rattle.gap.specs.Rules.Lines.{newline, newlines, sinceAfter, since}
 use Rattle.gap.proofs.Laws.Lines.{newlines-append, since-append, since-unbroken}
-use Rattle.window.specs.Painter.{LineStart}
+use Rattle.window.specs.Wording.Painter.{LineStart}
 
 -- A text with a newline, cut at its last one.
 record LastNewline (s : List ℕ) : Type 0 where

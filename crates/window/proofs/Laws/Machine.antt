@@ -7,15 +7,15 @@ use native.Mathlib.Omega.{arith}
 use lib.Dec.{eqb, leb, ltb}
 use lib.ListN.{length, set, length-set}
 use borrow.Author.Tests.{leb-true, lt-ltb, le-leb, lt-leb, ne-eqb}
-use Rattle.gap.specs.Sequence.{every, patch}
-use Rattle.gap.specs.Decimal.{worth, decimal}
-use Rattle.gap.specs.Layout.{printable}
+use Rattle.gap.specs.Rules.Sequence.{every, patch}
+use Rattle.gap.specs.Rules.Decimal.{worth, decimal}
+use Rattle.gap.specs.Rules.Layout.{printable}
 use Rattle.gap.proofs.Laws.Tests.{and-left, and-right, and-both, cond-true, cond-false}
 use Rattle.gap.proofs.Laws.Decimals.{by-tenths, decimal-digit, decimal-step}
 use Rattle.gap.proofs.Laws.Runs.{patch-none, patch-one}
 use Rattle.gap.proofs.Laws.Patches.{patch-behind}
-use Rattle.window.specs.Sequences.{sentSpot}
-use Rattle.window.specs.Machine.{Reading, cells, rowNumber, columnNumber, Machine, machine, reads, cellShown, goes, digitMore, step, feed}
+use Rattle.window.specs.Rules.Sequences.{sentSpot}
+use Rattle.window.specs.Rules.Machine.{Reading, cells, rowNumber, columnNumber, Machine, machine, reads, cellShown, goes, digitMore, step, feed}
 
 -- The column behind a run of cells: the one that it comes to, or the last.
 abbrev pub within : ℕ → ℕ → ℕ

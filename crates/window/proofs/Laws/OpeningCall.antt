@@ -10,25 +10,25 @@ use lib.Seq.{length-take-le, getD-take}
 use borrow.Author.Tests.{leb-true, le-leb, lt-leb, not-true, not-false}
 use Rattle.gap.specs.declared.Search.{Search}
 use Rattle.gap.specs.declared.Search.the-variants.{Reached, Nowhere}
-use Rattle.gap.specs.Doc.{Doc}
-use Rattle.gap.specs.Nearest.{nearest}
-use Rattle.gap.specs.Lines.{newlines, sinceAfter}
-use Rattle.gap.specs.Layout.{allowed, gapped, ungap}
+use Rattle.gap.specs.Rules.Doc.{Doc}
+use Rattle.gap.specs.Rules.Nearest.{nearest}
+use Rattle.gap.specs.Rules.Lines.{newlines, sinceAfter}
+use Rattle.gap.specs.Rules.Layout.{allowed, gapped, ungap}
 use Rattle.gap.proofs.Laws.Tests.{and-left, and-right, cond-true, cond-false}
 use Rattle.gap.proofs.Laws.Layout.{length-gapped, ungap-gapped}
-use Rattle.editor.specs.Refusals.{SIZE, LONG, TEXT}
-use Rattle.editor.specs.Plain.{quiet}
+use Rattle.editor.specs.Rules.Refusals.{SIZE, LONG, TEXT}
+use Rattle.editor.specs.Rules.Plain.{quiet}
 use Rattle.gap.proofs.Laws.Nearest.{nearest-same}
-use Rattle.editor.specs.Bytes.{quarter, lengthsOf, storesOf}
-use Rattle.editor.specs.Promise.{stores, Opens, openingLengths}
+use Rattle.editor.specs.Rules.Bytes.{quarter, lengthsOf, storesOf}
+use Rattle.editor.specs.Wording.Promise.{stores, Opens, openingLengths}
 use Rattle.editor.proofs.Laws.Session.{measured}
 use Rattle.window.specs.Words.{Lengths}
 use Rattle.window.specs.declared.Rows.{Rows}
 use Rattle.window.specs.declared.Reply.{Reply}
-use Rattle.window.specs.Window.{virtualIn, window, visible}
-use Rattle.window.specs.Painter.{Canvas}
-use Rattle.window.specs.Core.{Lent, T, tabled, start, openedText, badByte, unlessBad, opened}
-use Rattle.window.specs.Calls.{Texts, virtualHeld, Refreshed, lent, called, unopenedReply}
+use Rattle.window.specs.Rules.Window.{virtualIn, window, visible}
+use Rattle.window.specs.Wording.Painter.{Canvas}
+use Rattle.window.specs.Rules.Core.{Lent, T, tabled, start, openedText, badByte, unlessBad, opened}
+use Rattle.window.specs.Wording.Calls.{Texts, virtualHeld, Refreshed, lent, called, unopenedReply}
 use Rattle.window.proofs.Laws.Views.{tabled-facts}
 use Rattle.window.proofs.Theorems.Sessions.{start-seen}
 

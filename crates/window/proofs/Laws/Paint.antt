@@ -9,13 +9,13 @@ use native.Mathlib.Omega.{arith}
 use lib.Dec.{eqb, leb, ltb}
 use lib.ListN.{length, take, drop, replicate, take-append-drop, length-replicate}
 use borrow.Author.Tests.{ltb-true, ltb-false, leb-true, leb-false, lt-ltb, le-ltb, lt-leb}
-use Rattle.gap.specs.Lines.{newline, newlines, sinceAfter}
+use Rattle.gap.specs.Rules.Lines.{newline, newlines, sinceAfter}
 use Rattle.gap.proofs.Laws.Tests.{cond-true}
 use Rattle.gap.proofs.Laws.Runs.{length-patch}
 use Rattle.gap.proofs.Laws.Lines.{since-unbroken}
 use Rattle.window.specs.Words.{Frame}
-use Rattle.window.specs.Painter.{Sheet, above, over, across, nextCell, put, along, letter, lineBelow, rowBelow, lineEnd, paint}
-use Rattle.window.specs.Painter.{Easel, LineStart}
+use Rattle.window.specs.Wording.Painter.{Sheet, above, over, across, nextCell, put, along, letter, lineBelow, rowBelow, lineEnd, paint}
+use Rattle.window.specs.Wording.Painter.{Easel, LineStart}
 
 -- What one byte does.
 abbrev pub byte : Frame → ℕ → Sheet → Sheet

@@ -8,14 +8,14 @@ use native.Mathlib.Omega.{arith}
 use lib.Dec.{eqb}
 use lib.ListN.{length, take, drop, getD, replicate, length-replicate, getD-replicate, List·getD-eq-default}
 use lib.Seq.{drop-cons, getD-take, getD-drop, getD-at, ext-getD}
-use Rattle.gap.specs.Sequence.{part}
-use Rattle.gap.specs.Doc.{Doc, content}
-use Rattle.gap.specs.Lines.{newline, newlines, since, lines}
+use Rattle.gap.specs.Rules.Sequence.{part}
+use Rattle.gap.specs.Rules.Doc.{Doc, content}
+use Rattle.gap.specs.Rules.Lines.{newline, newlines, since, lines}
 use Rattle.gap.proofs.Laws.Sequence.{length-part}
 use Rattle.gap.proofs.Laws.Lines.{newlines-append, length-lines, lines-first, firstLine, lastLine, length-last, cursor-line}
 use Rattle.window.specs.Words.{Frame}
-use Rattle.window.specs.Window.{window}
-use Rattle.window.specs.Painter.{Sheet, across, nextCell}
+use Rattle.window.specs.Rules.Window.{window}
+use Rattle.window.specs.Wording.Painter.{Sheet, across, nextCell}
 use Rattle.window.proofs.Laws.Window.{length-window, window-cell}
 use Rattle.window.proofs.Laws.Paint.{row-fits, InRow, blanks}
 

@@ -10,12 +10,12 @@ use lib.Dec.{eqb}
 use lib.ListN.{length, take, drop, length-append, length-take, length-drop, drop-of-length-le}
 use lib.Seq.{length-take-le, take-add, take-at, take-all, drop-at, drop-drop}
 use borrow.Author.Tests.{ne-eqb}
-use Rattle.gap.specs.Sequence.{sameBytes, part, patch}
+use Rattle.gap.specs.Rules.Sequence.{sameBytes, part, patch}
 use Rattle.gap.proofs.Laws.Tests.{clash}
 use Rattle.gap.proofs.Laws.Compared.{same-parts}
 use Rattle.window.specs.Words.{Frame}
-use Rattle.window.specs.Rows.{changed, firstRow, lastRow}
-use Rattle.window.specs.Painter.{Sheet, begun, put, rowBelow}
+use Rattle.window.specs.Rules.Rows.{changed, firstRow, lastRow}
+use Rattle.window.specs.Wording.Painter.{Sheet, begun, put, rowBelow}
 use Rattle.window.proofs.Laws.Rows.{Named, nothing, run, named}
 use Rattle.window.proofs.Laws.Paint.{moved}
 

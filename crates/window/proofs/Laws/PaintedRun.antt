@@ -8,15 +8,15 @@ use lib.Dec.{eqb}
 use lib.ListN.{length, take, drop, length-append, length-take, length-drop}
 use lib.Seq.{take-add, take-all, take-nil, drop-drop, drop-nil}
 use borrow.Author.Tests.{lt-ltb, le-ltb, le-leb, lt-leb, not-true}
-use Rattle.gap.specs.Sequence.{every, sameBytes, part, patch}
-use Rattle.gap.specs.Lines.{newline}
+use Rattle.gap.specs.Rules.Sequence.{every, sameBytes, part, patch}
+use Rattle.gap.specs.Rules.Lines.{newline}
 use Rattle.gap.proofs.Laws.Tests.{and-left, and-right, cond-false}
 use Rattle.gap.proofs.Laws.Sequence.{length-part, take-least}
 use Rattle.gap.proofs.Laws.Runs.{length-patch, patch-none}
 use Rattle.gap.proofs.Laws.Patches.{part-behind, patch-behind}
 use Rattle.gap.proofs.Laws.Compared.{same-append}
 use Rattle.window.specs.Words.{Frame}
-use Rattle.window.specs.Painter.{Sheet, above, over, nextCell, put, along, letter, lineEnd, paint}
+use Rattle.window.specs.Wording.Painter.{Sheet, above, over, nextCell, put, along, letter, lineEnd, paint}
 use Rattle.window.proofs.Laws.Paint.{moved, InRow, letter-fits}
 
 -- Nothing put changes nothing, and two runs side by side are put as one.

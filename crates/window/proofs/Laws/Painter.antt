@@ -10,16 +10,16 @@ use lib.Dec.{eqb}
 use lib.ListN.{length, getD, length-replicate}
 use lib.Seq.{append-snoc}
 use borrow.Author.Tests.{lt-ltb, le-ltb, le-leb, lt-leb, leb-true}
-use Rattle.gap.specs.Doc.{Doc, content, times}
-use Rattle.gap.specs.Lines.{newline, newlines, sinceAfter, since, lines}
+use Rattle.gap.specs.Rules.Doc.{Doc, content, times}
+use Rattle.gap.specs.Rules.Lines.{newline, newlines, sinceAfter, since, lines}
 use Rattle.gap.proofs.Laws.Tests.{clash, decided, cond-true}
 use Rattle.gap.proofs.Laws.Lines.{newlines-append, since-append, firstLine}
 use Rattle.window.specs.Words.{Frame}
 use Rattle.window.specs.declared.Pen.{Pen}
-use Rattle.window.specs.Window.{window}
-use Rattle.window.specs.Rows.{firstRow, lastRow}
-use Rattle.window.specs.Painter.{Sheet, begun, above, over, across, nextCell, put, along, letter, lineBelow, rowBelow}
-use Rattle.window.specs.Painter.{lineEnd, paint, finishPaint}
+use Rattle.window.specs.Rules.Window.{window}
+use Rattle.window.specs.Rules.Rows.{firstRow, lastRow}
+use Rattle.window.specs.Wording.Painter.{Sheet, begun, above, over, across, nextCell, put, along, letter, lineBelow, rowBelow}
+use Rattle.window.specs.Wording.Painter.{lineEnd, paint, finishPaint}
 use Rattle.window.proofs.Laws.Window.{length-window}
 use Rattle.window.proofs.Laws.Paint.{byte, paint-over, InRow, letter-fits, blanks, blanks-fit, Lettered, lettered, Ended, ended}
 use Rattle.window.proofs.Laws.Paint.{letter-below, letter-higher, letter-before, letter-behind, letter-inside}

@@ -8,14 +8,14 @@ use native.Mathlib.Nat.{le-refl}
 use native.Mathlib.Omega.{arith}
 use lib.ListN.{length, take, take-append-drop, length-append, length-take, length-drop}
 use borrow.Author.Tests.{le-ltb}
-use Rattle.gap.specs.Doc.{content}
-use Rattle.gap.specs.Layout.{ungap}
-use Rattle.gap.specs.Lines.{newline, newlines, sinceAfter}
+use Rattle.gap.specs.Rules.Doc.{content}
+use Rattle.gap.specs.Rules.Layout.{ungap}
+use Rattle.gap.specs.Rules.Lines.{newline, newlines, sinceAfter}
 use Rattle.gap.proofs.Laws.Runs.{tailOf, tail-lent}
 use Rattle.window.specs.Words.{Quoted, Frame}
 use Rattle.window.specs.declared.Pen.{Pen}
-use Rattle.window.specs.Window.{virtualIn}
-use Rattle.window.specs.Painter.{Sheet, begun, above, paint, Easel, Canvas, sheet, LineStart}
+use Rattle.window.specs.Rules.Window.{virtualIn}
+use Rattle.window.specs.Wording.Painter.{Sheet, begun, above, paint, Easel, Canvas, sheet, LineStart}
 use Rattle.window.proofs.Laws.Paint.{moved, paint-append, paint-above, paint-top, paint-from, easel-on, easel-less}
 
 -- A piece that lies above the window: only its newlines and the column at its end count.

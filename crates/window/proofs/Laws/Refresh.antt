@@ -7,16 +7,16 @@ use Prim.Native.Nat.{ℕ, _+_, _^_, _≤_}
 use native.Mathlib.Omega.{arith}
 use lib.ListN.{length, take, length-append, length-take, length-drop}
 use lib.Seq.{length-take-le}
-use Rattle.gap.specs.Doc.{Doc, content}
-use Rattle.gap.specs.Lines.{newlines}
-use Rattle.gap.specs.Layout.{ungap}
+use Rattle.gap.specs.Rules.Doc.{Doc, content}
+use Rattle.gap.specs.Rules.Lines.{newlines}
+use Rattle.gap.specs.Rules.Layout.{ungap}
 use Rattle.gap.proofs.Laws.Lines.{newlines-append}
-use Rattle.editor.specs.Bytes.{quarter, quarterOf}
+use Rattle.editor.specs.Rules.Bytes.{quarter, quarterOf}
 use Rattle.window.specs.Words.{Lengths, Mode, Main, Quoted, Frame}
-use Rattle.window.specs.Window.{virtualIn, visible}
-use Rattle.window.specs.Painter.{Sheet, begun, above, paint, finishPaint, Easel, Canvas}
+use Rattle.window.specs.Rules.Window.{virtualIn, visible}
+use Rattle.window.specs.Wording.Painter.{Sheet, begun, above, paint, finishPaint, Easel, Canvas}
 use Rattle.window.specs.declared.Rows.{Rows}
-use Rattle.window.specs.Calls.{Texts, virtualHeld, Refreshed}
+use Rattle.window.specs.Wording.Calls.{Texts, virtualHeld, Refreshed}
 use Rattle.window.proofs.Laws.Window.{visible-says}
 use Rattle.window.proofs.Laws.Spots.{first-quarter}
 use Rattle.window.proofs.Laws.Paint.{paint-not-above, easel-on}

@@ -10,15 +10,15 @@ use lib.ListN.{length}
 use borrow.Author.Tests.{le-leb, lt-leb, not-true, not-false}
 use Rattle.gap.specs.declared.Search.{Search}
 use Rattle.gap.specs.declared.Search.the-variants.{Reached, Nowhere}
-use Rattle.gap.specs.Sequence.{patch}
-use Rattle.gap.specs.Written.{Wrote}
+use Rattle.gap.specs.Rules.Sequence.{patch}
+use Rattle.gap.specs.Wording.Written.{Wrote}
 use Rattle.gap.proofs.Laws.Tests.{cond-true, cond-false}
-use Rattle.editor.specs.Refusals.{SIZE, TEXT, ROOM}
+use Rattle.editor.specs.Rules.Refusals.{SIZE, TEXT, ROOM}
 use Rattle.window.specs.declared.Sending.{Sending}
-use Rattle.window.specs.Core.{rowsAndColumns}
-use Rattle.window.specs.Sequences.{sentSpot, rowCount, sentRows, sentColumn, sentScreen}
-use Rattle.window.specs.Sending.{SendOutcome, rowsOn, cursorOn, sendable, badCell, sentInto, unlessBadCell, sending}
-use Rattle.window.specs.Writing.{RowsIn, sentSize, outcomeOf}
+use Rattle.window.specs.Rules.Core.{rowsAndColumns}
+use Rattle.window.specs.Rules.Sequences.{sentSpot, rowCount, sentRows, sentColumn, sentScreen}
+use Rattle.window.specs.Rules.Sending.{SendOutcome, rowsOn, cursorOn, sendable, badCell, sentInto, unlessBadCell, sending}
+use Rattle.window.specs.Wording.Writing.{RowsIn, sentSize, outcomeOf}
 use Rattle.window.proofs.Laws.Sendable.{Sendable, sendable-facts, sent-on}
 use Rattle.window.proofs.Laws.Sequences.{cursor-spot-short, named-most, rows-most, sent-size}
 

@@ -9,9 +9,9 @@ use lib.Dec.{eqb, leb, ltb}
 use lib.ListN.{length}
 use borrow.Author.Tests.{leb-true, eqb-true, ltb-true}
 use Rattle.gap.proofs.Laws.Tests.{decided, and-left, and-right, or-cases, cond-true, cond-false}
-use Rattle.window.specs.Core.{rowsAndColumns}
-use Rattle.window.specs.Sequences.{sentColumn}
-use Rattle.window.specs.Sending.{rowsOn, sendable}
+use Rattle.window.specs.Rules.Core.{rowsAndColumns}
+use Rattle.window.specs.Rules.Sequences.{sentColumn}
+use Rattle.window.specs.Rules.Sending.{rowsOn, sendable}
 
 -- No rows are 0 and 0, which are in order too.
 pub record Sendable (H W first last row column : ℕ) (screen : List ℕ) : Type 0 where

@@ -8,17 +8,17 @@ use native.Mathlib.Omega.{arith}
 use lib.ListN.{length, drop}
 use lib.Seq.{drop-drop}
 use borrow.Author.Tests.{ne-eqb}
-use Rattle.gap.specs.Sequence.{every, part, patch, counted}
-use Rattle.gap.specs.Layout.{printable}
+use Rattle.gap.specs.Rules.Sequence.{every, part, patch, counted}
+use Rattle.gap.specs.Rules.Layout.{printable}
 use Rattle.gap.proofs.Laws.Tests.{cond-false}
 use Rattle.gap.proofs.Laws.Sequence.{every-take, every-drop, length-part}
 use Rattle.gap.proofs.Laws.Runs.{length-patch, patch-none}
 use Rattle.gap.proofs.Laws.Patches.{patch-behind}
-use Rattle.window.specs.Window.{joined}
-use Rattle.window.specs.Rows.{screenRow}
-use Rattle.window.specs.Terminal.{repaint}
-use Rattle.window.specs.Sequences.{sentSpot, sentRow, rowCount, sentRows}
-use Rattle.window.specs.Machine.{Machine, cells, machine, feed}
+use Rattle.window.specs.Rules.Window.{joined}
+use Rattle.window.specs.Rules.Rows.{screenRow}
+use Rattle.window.specs.Rules.Terminal.{repaint}
+use Rattle.window.specs.Rules.Sequences.{sentSpot, sentRow, rowCount, sentRows}
+use Rattle.window.specs.Rules.Machine.{Machine, cells, machine, feed}
 use Rattle.window.proofs.Laws.Rows.{run-split}
 use Rattle.window.proofs.Laws.Machine.{within-most, feed-append, feed-spot, feed-run}
 

@@ -4,12 +4,12 @@ use mathlib.Core.Bool.{true}
 use mathlib.Core.List.{List}
 use Prim.Native.Nat.{ℕ, _*_}
 use lib.ListN.{length}
-use Rattle.gap.specs.Sequence.{every}
-use Rattle.gap.specs.Layout.{printable}
-use Rattle.window.specs.Terminal.{repaint}
-use Rattle.window.specs.Sequences.{sentSpot, sentRows, sentColumn, sentScreen}
-use Rattle.window.specs.Sending.{sendable}
-use Rattle.window.specs.Machine.{Machine, cells, machine, feed}
+use Rattle.gap.specs.Rules.Sequence.{every}
+use Rattle.gap.specs.Rules.Layout.{printable}
+use Rattle.window.specs.Rules.Terminal.{repaint}
+use Rattle.window.specs.Rules.Sequences.{sentSpot, sentRows, sentColumn, sentScreen}
+use Rattle.window.specs.Rules.Sending.{sendable}
+use Rattle.window.specs.Rules.Machine.{Machine, cells, machine, feed}
 use Rattle.window.proofs.Laws.Sendable.{sendable-facts, sent-on}
 use Rattle.window.proofs.Laws.Machine.{feed-append, feed-spot}
 use Rattle.window.proofs.Laws.SentRows.{feed-rows}

@@ -6,13 +6,13 @@ use Prim.Native.Nat.{ℕ, _-_, _≤_}
 use native.Mathlib.Omega.{arith}
 use lib.Dec.{eqb}
 use borrow.Author.Tests.{le-leb, eq-eqb}
-use Rattle.gap.specs.Doc.{Doc}
+use Rattle.gap.specs.Rules.Doc.{Doc}
 use Rattle.gap.proofs.Laws.Tests.{and-both, or-right}
 use Rattle.window.specs.Words.{Frame}
-use Rattle.window.specs.Window.{virtual, rowOf, columnOf, visible}
-use Rattle.window.specs.Rows.{changed, firstRow, lastRow}
-use Rattle.window.specs.Terminal.{View, picture, Good}
-use Rattle.window.specs.Sending.{rowsOn, cursorOn, sendable}
+use Rattle.window.specs.Rules.Window.{virtual, rowOf, columnOf, visible}
+use Rattle.window.specs.Rules.Rows.{changed, firstRow, lastRow}
+use Rattle.window.specs.Rules.Terminal.{View, picture, Good}
+use Rattle.window.specs.Rules.Sending.{rowsOn, cursorOn, sendable}
 use Rattle.window.proofs.Laws.Window.{length-window, visible-says}
 use Rattle.window.proofs.Laws.Rows.{Named, nothing, run, named}
 

@@ -10,17 +10,17 @@ use lib.Dec.{eqb}
 use lib.ListN.{length, length-append}
 use borrow.Rule.Slice.PartMut.{midOf}
 use borrow.Author.Tests.{eqb-true, eqb-false, eq-eqb, ne-eqb}
-use Rattle.gap.specs.Sequence.{part, counted}
-use Rattle.gap.specs.Decimal.{decimal}
-use Rattle.gap.specs.Written.{Wrote}
+use Rattle.gap.specs.Rules.Sequence.{part, counted}
+use Rattle.gap.specs.Rules.Decimal.{decimal}
+use Rattle.gap.specs.Wording.Written.{Wrote}
 use Rattle.gap.proofs.Laws.Tests.{decided, cond-true, cond-false}
 use Rattle.gap.proofs.Laws.Sequence.{length-part}
 use Rattle.gap.proofs.Laws.Decimals.{decimal-within, decimal-short}
 use Rattle.gap.proofs.Laws.Writers.{wrote-none, then, wrote-length}
-use Rattle.window.specs.Window.{joined}
-use Rattle.window.specs.Rows.{screenRow}
-use Rattle.window.specs.Sequences.{sentSpot, sentRow, rowCount, sentRows, sentColumn, sentScreen}
-use Rattle.window.specs.Writing.{RowsIn, rowsSize, sentSize}
+use Rattle.window.specs.Rules.Window.{joined}
+use Rattle.window.specs.Rules.Rows.{screenRow}
+use Rattle.window.specs.Rules.Sequences.{sentSpot, sentRow, rowCount, sentRows, sentColumn, sentScreen}
+use Rattle.window.specs.Wording.Writing.{RowsIn, rowsSize, sentSize}
 
 -- ---- A spot
 

@@ -10,15 +10,15 @@ use borrow.Author.Tests.{leb-true, eqb-true, eq-eqb}
 use Rattle.gap.proofs.Laws.Tests.{and-left, and-right, and-both, cond-true}
 use Rattle.gap.proofs.Laws.Layout.{length-gapped}
 use Rattle.editor.specs.declared.Key.{Key}
-use Rattle.editor.specs.Plain.{Outcome, refused, done}
-use Rattle.editor.specs.Keys.{key}
-use Rattle.editor.specs.Bytes.{Stores, quarter, sized, storesOf, editorOk}
+use Rattle.editor.specs.Rules.Plain.{Outcome, refused, done}
+use Rattle.editor.specs.Rules.Keys.{key}
+use Rattle.editor.specs.Rules.Bytes.{Stores, quarter, sized, storesOf, editorOk}
 use Rattle.editor.proofs.Theorems.Layouts.{plain-of-encoded, encoded-sized, encoded-ok, session-encoded}
 use Rattle.editor.proofs.Theorems.Sessions.{key-keeps}
 use Rattle.window.specs.Words.{Session}
-use Rattle.window.specs.Window.{virtual, visible, policy}
-use Rattle.window.specs.Core.{Lent, T, rowsAndColumns, tabled, isSession, held, finished, keyed}
-use Rattle.window.specs.Terminal.{View, looked, Good, recordOf, storesWith}
+use Rattle.window.specs.Rules.Window.{virtual, visible, policy}
+use Rattle.window.specs.Rules.Core.{Lent, T, rowsAndColumns, tabled, isSession, held, finished, keyed}
+use Rattle.window.specs.Rules.Terminal.{View, looked, Good, recordOf, storesWith}
 use Rattle.window.proofs.Laws.Window.{policy-visible}
 
 -- What the test of sizes tells.

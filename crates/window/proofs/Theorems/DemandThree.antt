@@ -5,18 +5,18 @@ use mathlib.Core.Bool.{true}
 use mathlib.Core.List.{List, [], _∷_}
 use Prim.Native.Nat.{ℕ}
 use lib.ListN.{take}
-use Rattle.gap.specs.Sequence.{every}
-use Rattle.gap.specs.Layout.{printable}
+use Rattle.gap.specs.Rules.Sequence.{every}
+use Rattle.gap.specs.Rules.Layout.{printable}
 use Rattle.editor.specs.declared.Key.{Key}
-use Rattle.editor.specs.Plain.{Outcome, refused, done, opening}
-use Rattle.editor.specs.Keys.{key, keys, after}
-use Rattle.editor.specs.Bytes.{quarter}
+use Rattle.editor.specs.Rules.Plain.{Outcome, refused, done, opening}
+use Rattle.editor.specs.Rules.Keys.{key, keys, after}
+use Rattle.editor.specs.Rules.Bytes.{quarter}
 use Rattle.window.specs.Words.{Session}
-use Rattle.window.specs.Window.{virtual, window, policy}
-use Rattle.window.specs.Core.{Lent, T, tabled, held, isSession, lentOf, openedText, opened, finished, shown, keyed}
-use Rattle.window.specs.Rows.{Shortest}
-use Rattle.window.specs.Terminal.{Bench, View, openedBench, openingView, given, repaint, struck, typed, looked, viewed, picture}
-use Rattle.window.specs.Terminal.{Good, recordOf, storesWith, Showing}
+use Rattle.window.specs.Rules.Window.{virtual, window, policy}
+use Rattle.window.specs.Rules.Core.{Lent, T, tabled, held, isSession, lentOf, openedText, opened, finished, shown, keyed}
+use Rattle.window.specs.Rules.Rows.{Shortest}
+use Rattle.window.specs.Rules.Terminal.{Bench, View, openedBench, openingView, given, repaint, struck, typed, looked, viewed, picture}
+use Rattle.window.specs.Rules.Terminal.{Good, recordOf, storesWith, Showing}
 use Rattle.window.proofs.Laws.Window.{length-window, window-printable, virtual-allowed}
 use Rattle.window.proofs.Laws.Rows.{repainted}
 use Rattle.window.proofs.Laws.Views.{tabled-facts, view-keyed, view-size, looked-good}

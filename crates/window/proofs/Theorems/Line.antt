@@ -9,18 +9,18 @@ use lib.ListN.{length, take}
 use borrow.Author.Tests.{le-leb}
 use Rattle.gap.proofs.Laws.Tests.{cond-true}
 use Rattle.editor.specs.declared.Key.{Key}
-use Rattle.editor.specs.Refusals.{SIZE}
-use Rattle.editor.specs.Plain.{Plain, Outcome, refused, done, opening}
-use Rattle.editor.specs.Keys.{soundKey, pressed, fits, bounded, key, keys}
-use Rattle.editor.specs.Bytes.{quarter}
+use Rattle.editor.specs.Rules.Refusals.{SIZE}
+use Rattle.editor.specs.Rules.Plain.{Plain, Outcome, refused, done, opening}
+use Rattle.editor.specs.Rules.Keys.{soundKey, pressed, fits, bounded, key, keys}
+use Rattle.editor.specs.Rules.Bytes.{quarter}
 use Rattle.window.specs.Words.{Session}
-use Rattle.window.specs.Window.{policy}
-use Rattle.window.specs.Core.{Lent, Called, T, lentOf, openedText, opened, finished, shown, keyed}
-use Rattle.window.specs.Terminal.{View, openingView, repaint, looked, viewed, picture, Good, recordOf, storesWith}
-use Rattle.window.specs.Sequences.{sentColumn, sentScreen}
-use Rattle.window.specs.Sending.{SendOutcome, rowsOn, sendable, unsent, sending}
-use Rattle.window.specs.Machine.{Machine, cells, machine, feed, Line, bytesAfter, received, openedLine, struckLine, typedLine, showing, enough}
-use Rattle.window.specs.Machine.{OnLine, Ready}
+use Rattle.window.specs.Rules.Window.{policy}
+use Rattle.window.specs.Rules.Core.{Lent, Called, T, lentOf, openedText, opened, finished, shown, keyed}
+use Rattle.window.specs.Rules.Terminal.{View, openingView, repaint, looked, viewed, picture, Good, recordOf, storesWith}
+use Rattle.window.specs.Rules.Sequences.{sentColumn, sentScreen}
+use Rattle.window.specs.Rules.Sending.{SendOutcome, rowsOn, sendable, unsent, sending}
+use Rattle.window.specs.Rules.Machine.{Machine, cells, machine, feed, Line, bytesAfter, received, openedLine, struckLine, typedLine, showing, enough}
+use Rattle.window.specs.Rules.Machine.{OnLine, Ready}
 use Rattle.window.proofs.Laws.Window.{length-window}
 use Rattle.window.proofs.Laws.Rows.{repainted, repaint-all}
 use Rattle.window.proofs.Laws.Views.{tabled-facts, some-rows, viewOf, session-view, view-keyed, view-size, looked-good}

@@ -5,7 +5,7 @@ use mathlib.Core.List.{List}
 use Prim.Native.Nat.{ℕ, zero, suc, _*_, _<_}
 use native.Mathlib.Omega.{arith}
 use lib.ListN.{length}
-use Rattle.window.specs.Rows.{screenRow, changed, firstRow, lastRow, Shortest}
+use Rattle.window.specs.Rules.Rows.{screenRow, changed, firstRow, lastRow, Shortest}
 use Rattle.window.proofs.Laws.Rows.{unchanged-same, changed-differs, all-agree, Ends, Named, nothing, run, named}
 
 module _ (H W : ℕ) (old new : List ℕ) where

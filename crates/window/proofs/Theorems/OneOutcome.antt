@@ -3,9 +3,9 @@ use mathlib.Core.Path.{_≡_, sym, _∙_}
 use mathlib.Core.List.{List}
 use Prim.Native.Nat.{ℕ}
 use Rattle.window.specs.Words.{Key, Session}
-use Rattle.window.specs.Core.{Lent, Called}
-use Rattle.window.specs.Sending.{SendOutcome}
-use Rattle.window.specs.Promise.{OpenPromise, KeyPromise, SendPromise}
+use Rattle.window.specs.Rules.Core.{Lent, Called}
+use Rattle.window.specs.Rules.Sending.{SendOutcome}
+use Rattle.window.specs.Wording.Promise.{OpenPromise, KeyPromise, SendPromise}
 
 pub one-opening : (n H W : ℕ) (b : Lent) (o p : Called) → OpenPromise n H W b o → OpenPromise n H W b p → o ≡ p
 one-opening n H W b o p e f = e ∙ sym f

@@ -6,17 +6,17 @@ use mathlib.Core.List.{List}
 use Prim.Native.Nat.{ℕ}
 use lib.ListN.{take}
 use Rattle.editor.specs.declared.Key.{Key}
-use Rattle.editor.specs.Plain.{opening}
-use Rattle.editor.specs.Keys.{key, keys, after}
-use Rattle.editor.specs.Bytes.{quarter}
+use Rattle.editor.specs.Rules.Plain.{opening}
+use Rattle.editor.specs.Rules.Keys.{key, keys, after}
+use Rattle.editor.specs.Rules.Bytes.{quarter}
 use Rattle.window.specs.Words.{Session}
-use Rattle.window.specs.Core.{Lent, Called, T, tabled, held, isSession, unopened, turnedDown}
-use Rattle.window.specs.Sending.{SendOutcome, unsent}
-use Rattle.window.specs.Promise.{OpenPromise, KeyPromise, SendPromise, SendAfterPromise}
-use Rattle.window.specs.Promise.{BenchRun, at-end, press, LineRun, at-rest, strike}
-use Rattle.window.specs.Rows.{Shortest}
-use Rattle.window.specs.Terminal.{Bench, given, openingView, struck, typed, viewed, picture}
-use Rattle.window.specs.Machine.{Machine, Line, received, bytesAfter, openedLine, struckLine, typedLine, showing, Ready}
+use Rattle.window.specs.Rules.Core.{Lent, Called, T, tabled, held, isSession, unopened, turnedDown}
+use Rattle.window.specs.Rules.Sending.{SendOutcome, unsent}
+use Rattle.window.specs.Wording.Promise.{OpenPromise, KeyPromise, SendPromise, SendAfterPromise}
+use Rattle.window.specs.Wording.Promise.{BenchRun, at-end, press, LineRun, at-rest, strike}
+use Rattle.window.specs.Rules.Rows.{Shortest}
+use Rattle.window.specs.Rules.Terminal.{Bench, given, openingView, struck, typed, viewed, picture}
+use Rattle.window.specs.Rules.Machine.{Machine, Line, received, bytesAfter, openedLine, struckLine, typedLine, showing, Ready}
 use Rattle.window.proofs.Theorems.Refusals.{opening-leaves, key-leaves}
 use Rattle.window.proofs.Theorems.Sessions.{key-follows}
 use Rattle.window.proofs.Theorems.DemandThree.{demand-three, key-names}

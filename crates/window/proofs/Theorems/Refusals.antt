@@ -9,23 +9,23 @@ use lib.Dec.{leb}
 use lib.ListN.{length, take, getD}
 use lib.Seq.{length-take-le, getD-take}
 use borrow.Author.Tests.{leb-true, not-true, not-false}
-use Rattle.gap.specs.Checks.{check, firstFailed, Passing}
+use Rattle.gap.specs.Rules.Checks.{check, firstFailed, Passing}
 use Rattle.gap.specs.declared.Search.{Search}
 use Rattle.gap.specs.declared.Search.the-variants.{Reached, Nowhere}
-use Rattle.gap.specs.Sequence.{every}
-use Rattle.gap.specs.Nearest.{nearest}
-use Rattle.gap.specs.Layout.{allowed}
+use Rattle.gap.specs.Rules.Sequence.{every}
+use Rattle.gap.specs.Rules.Nearest.{nearest}
+use Rattle.gap.specs.Rules.Layout.{allowed}
 use Rattle.gap.proofs.Laws.Tests.{decided, clash}
 use Rattle.gap.proofs.Laws.Sequence.{every-at, at-every}
 use Rattle.gap.proofs.Laws.Nearest.{Least, reached-least, nowhere-none}
 use Rattle.editor.specs.declared.Key.{Key}
-use Rattle.editor.specs.Refusals.{SIZE, LONG, TEXT, SESSION, KEY, FULL}
-use Rattle.editor.specs.Plain.{Plain, Did, refused, done}
-use Rattle.editor.specs.Keys.{soundKey, pressed, fits, bounded, key}
-use Rattle.editor.specs.Bytes.{quarter}
+use Rattle.editor.specs.Rules.Refusals.{SIZE, LONG, TEXT, SESSION, KEY, FULL}
+use Rattle.editor.specs.Rules.Plain.{Plain, Did, refused, done}
+use Rattle.editor.specs.Rules.Keys.{soundKey, pressed, fits, bounded, key}
+use Rattle.editor.specs.Rules.Bytes.{quarter}
 use Rattle.window.specs.Words.{Session}
-use Rattle.window.specs.Core.{Lent, Called, T, tabled, isSession, held, unopened, openedText, badByte, unlessBad, opened, turnedDown, shown, finished, keyed}
-use Rattle.window.specs.Refusals.{openingChecks, keyChecks}
+use Rattle.window.specs.Rules.Core.{Lent, Called, T, tabled, isSession, held, unopened, openedText, badByte, unlessBad, opened, turnedDown, shown, finished, keyed}
+use Rattle.window.specs.Rules.Refusals.{openingChecks, keyChecks}
 use Rattle.gap.proofs.Laws.Order.{exactly, accepted-exactly}
 
 -- ---- opening

@@ -10,18 +10,18 @@ use lib.Dec.{leb}
 use lib.ListN.{length, getD}
 use lib.Seq.{take-length}
 use borrow.Author.Tests.{leb-true}
-use Rattle.gap.specs.Checks.{Check, check, firstFailed, Passing}
+use Rattle.gap.specs.Rules.Checks.{Check, check, firstFailed, Passing}
 use Rattle.gap.specs.declared.Search.{Search}
 use Rattle.gap.specs.declared.Search.the-variants.{Reached, Nowhere}
-use Rattle.gap.specs.Sequence.{every, patch}
-use Rattle.gap.specs.Layout.{printable}
-use Rattle.gap.specs.Written.{Wrote}
+use Rattle.gap.specs.Rules.Sequence.{every, patch}
+use Rattle.gap.specs.Rules.Layout.{printable}
+use Rattle.gap.specs.Wording.Written.{Wrote}
 use Rattle.gap.proofs.Laws.Nearest.{Least, reached-least}
 use Rattle.gap.proofs.Laws.Writers.{wrote-length, wrote-front, wrote-behind}
-use Rattle.editor.specs.Refusals.{SIZE, TEXT, ROOM}
-use Rattle.window.specs.Sequences.{sentScreen}
-use Rattle.window.specs.Sending.{SendOutcome, sendable, badCell, unsent, sentFront, unlessBadCell, sending, Fronted}
-use Rattle.window.specs.Refusals.{sendChecks}
+use Rattle.editor.specs.Rules.Refusals.{SIZE, TEXT, ROOM}
+use Rattle.window.specs.Rules.Sequences.{sentScreen}
+use Rattle.window.specs.Rules.Sending.{SendOutcome, sendable, badCell, unsent, sentFront, unlessBadCell, sending, Fronted}
+use Rattle.window.specs.Rules.Refusals.{sendChecks}
 use Rattle.gap.proofs.Laws.Order.{exactly, accepted-exactly}
 use Rattle.window.proofs.Theorems.Refusals.{none, none-fails}
 

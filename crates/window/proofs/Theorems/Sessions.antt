@@ -7,18 +7,18 @@ use Prim.Native.Nat.{ℕ, _+_, _≤_}
 use native.Mathlib.Omega.{arith}
 use lib.ListN.{take}
 use borrow.Author.Tests.{leb-true, le-leb}
-use Rattle.gap.specs.Lines.{newlines, sinceAfter}
+use Rattle.gap.specs.Rules.Lines.{newlines, sinceAfter}
 use Rattle.gap.proofs.Laws.Tests.{and-both, cond-true}
 use Rattle.editor.specs.declared.Key.{Key}
-use Rattle.editor.specs.Plain.{Outcome, refused, done}
-use Rattle.editor.specs.Keys.{key, after}
-use Rattle.editor.specs.Bytes.{quarter}
+use Rattle.editor.specs.Rules.Plain.{Outcome, refused, done}
+use Rattle.editor.specs.Rules.Keys.{key, after}
+use Rattle.editor.specs.Rules.Bytes.{quarter}
 use Rattle.editor.proofs.Theorems.Sessions.{opening-sound}
 use Rattle.window.specs.Words.{Session}
-use Rattle.window.specs.Window.{virtualIn, virtual, visible, policy}
-use Rattle.window.specs.Core.{Lent, T, tabled, isSession, held, start, openedText, opened, shown, finished, keyed}
-use Rattle.window.specs.Terminal.{View, openingView, looked, picture, Good}
-use Rattle.window.specs.Promise.{Follows}
+use Rattle.window.specs.Rules.Window.{virtualIn, virtual, visible, policy}
+use Rattle.window.specs.Rules.Core.{Lent, T, tabled, isSession, held, start, openedText, opened, shown, finished, keyed}
+use Rattle.window.specs.Rules.Terminal.{View, openingView, looked, picture, Good}
+use Rattle.window.specs.Wording.Promise.{Follows}
 use Rattle.window.proofs.Laws.Views.{tabled-facts, viewOf, session-view, view-held, view-tabled, view-session, looked-good}
 use Rattle.window.proofs.Theorems.Refusals.{opening-accepted, opening-done}
 use Rattle.window.proofs.Laws.Window.{length-window}

@@ -1,7 +1,7 @@
 -- `print::put_accepted` writes the entries of an accepted call and the rows of its screen, one behind the other.
 use native.Mathlib.Omega.{arith}
 use borrow.Author.Needs.{needs}
-use Rattle.gap.specs.Strings.{bytes}
+use Rattle.gap.specs.Rules.Strings.{bytes}
 use Rattle.bench.proofs.Laws.Printed.{rows-room, accepted-wrote}
 use Rattle.bench.proofs.print.put_accepted.Statement.{statement}
 use Rattle.bench.proofs.print.put_accepted.Tie as tie

@@ -4,7 +4,7 @@ use Prim.Native.Nat.{_-_, _≤_}
 use native.Mathlib.Omega.{arith}
 use borrow.Author.Needs.{needs}
 use Rattle.gap.proofs.Laws.Scans.{Scan, scan-start, scan-found, scan-more, scan-none}
-use Rattle.editor.specs.Searches.{matchAway}
+use Rattle.editor.specs.Wording.Searches.{matchAway}
 use Rattle.editor.proofs.Laws.MatchScans.{reach-part}
 use Rattle.editor.proofs.finds.first_match.Statement.{statement}
 use Rattle.editor.proofs.finds.first_match.Tie as tie

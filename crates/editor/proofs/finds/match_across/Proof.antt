@@ -3,10 +3,10 @@ use mathlib.Core.Path.{sym, _∙_}
 use Prim.Native.Nat.{_+_, _-_}
 use native.Mathlib.Omega.{arith}
 use borrow.Author.Needs.{needs}
-use Rattle.gap.specs.Doc.{content}
-use Rattle.gap.specs.Layout.{ungap}
+use Rattle.gap.specs.Rules.Doc.{content}
+use Rattle.gap.specs.Rules.Layout.{ungap}
 use Rattle.gap.proofs.Laws.Scans.{Scan, scan-start, scan-found, scan-more, scan-none}
-use Rattle.editor.specs.Searches.{matchLeft}
+use Rattle.editor.specs.Wording.Searches.{matchLeft}
 use Rattle.editor.proofs.finds.match_across.Statement.{statement}
 use Rattle.editor.proofs.finds.match_across.Tie as tie
 

@@ -3,7 +3,7 @@ use Prim.Native.Nat.{_-_, _≤_}
 use native.Mathlib.Omega.{arith}
 use borrow.Author.Needs.{needs}
 use Rattle.gap.proofs.Laws.Scans.{Scan, scan-start}
-use Rattle.editor.specs.Searches.{matchAway}
+use Rattle.editor.specs.Wording.Searches.{matchAway}
 use Rattle.gap.proofs.Laws.RowScans.{row-none, row-found, row-last}
 use Rattle.editor.proofs.Laws.MatchScans.{reach-part}
 use Rattle.editor.proofs.finds.nearest_match.Statement.{statement}

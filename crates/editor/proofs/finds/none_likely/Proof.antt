@@ -3,9 +3,9 @@ use mathlib.Core.Path.{ap}
 use mathlib.Core.Bool.{not}
 use Prim.Native.Nat.{_-_}
 use borrow.Author.Needs.{needs}
-use Rattle.gap.specs.Sequence.{counted}
+use Rattle.gap.specs.Rules.Sequence.{counted}
 use Rattle.gap.proofs.Laws.Scans.{Tested, tested-start}
-use Rattle.editor.specs.Searches.{likelyAt}
+use Rattle.editor.specs.Wording.Searches.{likelyAt}
 use Rattle.gap.proofs.Laws.RowScans.{numbers-more, numbers-all}
 use Rattle.editor.proofs.finds.none_likely.Statement.{statement}
 use Rattle.editor.proofs.finds.none_likely.Tie as tie

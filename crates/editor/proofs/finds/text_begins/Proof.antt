@@ -1,7 +1,7 @@
 -- `editor::finds::text_begins` meets its contract: what follows the place is one run of the store or two.
 use mathlib.Core.Path.{ap, _∙_}
 use borrow.Author.Needs.{needs}
-use Rattle.gap.specs.Sequence.{begins}
+use Rattle.gap.specs.Rules.Sequence.{begins}
 use Rattle.gap.proofs.Laws.Layout.{text-right, text-across}
 use Rattle.editor.proofs.finds.text_begins.Statement.{statement}
 use Rattle.editor.proofs.finds.text_begins.Tie as tie

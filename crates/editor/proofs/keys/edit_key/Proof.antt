@@ -1,7 +1,7 @@
 -- `edit_key` does what the plain editor says, on either side: a session gives the side what the key asks.
 use borrow.Author.Needs.{needs}
 use Rattle.editor.specs.Words.{Main, Quoted}
-use Rattle.editor.specs.Bytes.{quarter}
+use Rattle.editor.specs.Rules.Bytes.{quarter}
 use Rattle.editor.proofs.Laws.Session.{measured}
 use Rattle.editor.proofs.Laws.Replies.{on-side, on-mode, on-quotation}
 use Rattle.editor.proofs.keys.edit_key.Statement.{statement}
@@ -37,7 +37,8 @@ same-length-2 c = search needs
 
 returns : tie.Need-returns
 returns c =
-    let done : tie.After-lifted = search in let turned : tie.After-on-side = search in let told : tie.After-enum-told = search in let start : tie.Start = search in
+    let done : tie.After-lifted = search in let turned : tie.After-on-side = search in let told : tie.After-enum-told = search in
+    let start : tie.Start = search in
     on-mode quarter _ _ (start .pre) Main _ _ _ _ _ (told .enum-told .given .1) (done .lifted .ensures) (turned .on-side .ensures)
 
 same-length-3 : tie.Need-same-length-3
@@ -45,9 +46,23 @@ same-length-3 c = search needs
 
 returns-2 : tie.Need-returns-2
 returns-2 c =
-    let done : tie.After-lifted2 = search in let turned : tie.After-edit-quotation = search in let told : tie.After-enum-told2 = search in let start : tie.Start = search in
+    let done : tie.After-lifted2 = search in let turned : tie.After-edit-quotation = search in
+    let told : tie.After-enum-told2 = search in let start : tie.Start = search in
     let (edits, rest) = turned .edit-quotation .ensures in
     on-quotation quarter _ _ (start .pre) _ _ _ _ (told .enum-told2 .given .1) (done .lifted2 .ensures) edits rest
 
 pub edit-key-spec : {M : Type 1} → statement M
-edit-key-spec = tie.close (tie.spec enum-told on-side-requires lifted-requires enum-told-2 edit-quotation-requires lifted-requires-2 same-length same-length-2 returns same-length-3 returns-2)
+edit-key-spec =
+    tie.close
+    (tie.spec
+    enum-told
+    on-side-requires
+    lifted-requires
+    enum-told-2
+    edit-quotation-requires
+    lifted-requires-2
+    same-length
+    same-length-2
+    returns
+    same-length-3
+    returns-2)

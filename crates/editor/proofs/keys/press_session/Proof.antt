@@ -2,7 +2,7 @@
 use mathlib.Core.Path.{sym, _∙_}
 use borrow.Author.Tests.{not-true, not-false}
 use borrow.Author.Needs.{needs}
-use Rattle.editor.specs.Keys.{key}
+use Rattle.editor.specs.Rules.Keys.{key}
 use Rattle.editor.proofs.keys.press_session.Statement.{statement}
 use Rattle.editor.proofs.keys.press_session.Tie as tie
 
@@ -37,4 +37,14 @@ returns-2 c =
     rw (sym (asked .sound-key .ensures) ∙ not-false _ (tested .if1 .left)) (done .press-sound .ensures)
 
 pub press-session-spec : {M : Type 1} → statement M
-press-session-spec = tie.close (tie.spec sound-key-requires unedited-requires returns press-sound-requires same-length same-length-2 same-length-3 returns-2)
+press-session-spec =
+    tie.close
+    (tie.spec
+    sound-key-requires
+    unedited-requires
+    returns
+    press-sound-requires
+    same-length
+    same-length-2
+    same-length-3
+    returns-2)

@@ -1,8 +1,8 @@
 -- `press_sound` does what the plain editor says where there is room, key by key. What a key is not lent stays as it is.
 use borrow.Author.Needs.{needs}
 use mathlib.Core.Path.{refl}
-use Rattle.editor.specs.Keys.{pressed}
-use Rattle.editor.specs.Bytes.{quarter}
+use Rattle.editor.specs.Rules.Keys.{pressed}
+use Rattle.editor.specs.Rules.Bytes.{quarter}
 use Rattle.editor.proofs.Laws.Fitting.{fitting, searchable}
 use Rattle.editor.proofs.keys.press_sound.Statement.{statement}
 use Rattle.editor.proofs.keys.press_sound.Tie as tie
@@ -129,4 +129,39 @@ returns-6 c =
     rw (known .enum-told3 .given .1) (done .replace-key .ensures)
 
 pub press-sound-spec : {M : Type 1} → statement M
-press-sound-spec = tie.close (tie.spec enum-known-k edit-key-requires enum-known-k-2 edit-key-requires-2 enum-told edit-key-requires-3 enum-told-2 quote-key-requires enum-known-k-3 find-key-requires enum-told-3 replace-key-requires same-length same-length-2 same-length-3 returns same-length-4 same-length-5 same-length-6 returns-2 same-length-7 same-length-8 same-length-9 returns-3 same-length-10 returns-4 same-length-11 same-length-12 returns-5 same-length-13 same-length-14 same-length-15 returns-6)
+press-sound-spec =
+    tie.close
+    (tie.spec
+    enum-known-k
+    edit-key-requires
+    enum-known-k-2
+    edit-key-requires-2
+    enum-told
+    edit-key-requires-3
+    enum-told-2
+    quote-key-requires
+    enum-known-k-3
+    find-key-requires
+    enum-told-3
+    replace-key-requires
+    same-length
+    same-length-2
+    same-length-3
+    returns
+    same-length-4
+    same-length-5
+    same-length-6
+    returns-2
+    same-length-7
+    same-length-8
+    same-length-9
+    returns-3
+    same-length-10
+    returns-4
+    same-length-11
+    same-length-12
+    returns-5
+    same-length-13
+    same-length-14
+    same-length-15
+    returns-6)

@@ -1,7 +1,7 @@
 -- `sound_key` is the definition's test, key by key.
 use mathlib.Core.Path.{sym, ap, _∙_}
 use borrow.Author.Needs.{needs}
-use Rattle.editor.specs.Keys.{soundKey}
+use Rattle.editor.specs.Rules.Keys.{soundKey}
 use Rattle.editor.proofs.keys.sound_key.Statement.{statement}
 use Rattle.editor.proofs.keys.sound_key.Tie as tie
 

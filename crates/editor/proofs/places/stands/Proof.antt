@@ -1,7 +1,7 @@
 -- `places::stands` meets its contract: each kind of place has its own test.
 use mathlib.Core.Path.{refl}
 use borrow.Author.Needs.{needs}
-use Rattle.editor.specs.Places.{isAt}
+use Rattle.editor.specs.Rules.Places.{isAt}
 use Rattle.editor.proofs.Laws.PlaceScans.{test-known, end-left, end-right}
 use Rattle.editor.proofs.places.stands.Statement.{statement}
 use Rattle.editor.proofs.places.stands.Tie as tie

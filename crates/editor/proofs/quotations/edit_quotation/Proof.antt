@@ -3,9 +3,9 @@ use mathlib.Core.Path.{_≡_, sym, subst}
 use native.Mathlib.Omega.{arith}
 use lib.ListN.{length-take, length-append, length-drop}
 use borrow.Author.Needs.{needs}
-use Rattle.gap.specs.Sequence.{part}
-use Rattle.editor.specs.Bytes.{quarter, quarterOf}
-use Rattle.editor.specs.Promise.{OnSide, editing}
+use Rattle.gap.specs.Rules.Sequence.{part}
+use Rattle.editor.specs.Rules.Bytes.{quarter, quarterOf}
+use Rattle.editor.specs.Wording.Promise.{OnSide, editing}
 use Rattle.editor.proofs.Laws.Quotation.{second-copied, quotation-edited}
 use Rattle.editor.proofs.quotations.edit_quotation.Statement.{statement}
 use Rattle.editor.proofs.quotations.edit_quotation.Tie as tie

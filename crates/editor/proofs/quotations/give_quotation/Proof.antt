@@ -2,7 +2,7 @@
 use native.Mathlib.Omega.{arith}
 use borrow.Author.Needs.{needs}
 use lib.ListN.{length-take, length-drop, length-append}
-use Rattle.editor.specs.Bytes.{quarter}
+use Rattle.editor.specs.Rules.Bytes.{quarter}
 use Rattle.editor.proofs.Laws.HandedOver.{quotation-given}
 use Rattle.editor.proofs.quotations.give_quotation.Statement.{statement}
 use Rattle.editor.proofs.quotations.give_quotation.Tie as tie
@@ -76,4 +76,20 @@ returns c =
     (given .hand-over .ensures) (given .hand-over .kept .1 .1 .1 .0) (freed .vacate .ensures)
 
 pub give-quotation-spec : {M : Type 1} → statement M
-give-quotation-spec = tie.close (tie.spec add-end slice-aggregate-copy-front slice-reshare-prefix-copy-front slice-aggregate-copy-front-2 copy-front-requires slice-aggregate-hand-over sub-hand-over part-hand-over-start part-hand-over-end hand-over-requires mul-vacate vacate-requires same-length returns)
+give-quotation-spec =
+    tie.close
+    (tie.spec
+    add-end
+    slice-aggregate-copy-front
+    slice-reshare-prefix-copy-front
+    slice-aggregate-copy-front-2
+    copy-front-requires
+    slice-aggregate-hand-over
+    sub-hand-over
+    part-hand-over-start
+    part-hand-over-end
+    hand-over-requires
+    mul-vacate
+    vacate-requires
+    same-length
+    returns)

@@ -2,8 +2,8 @@
 use mathlib.Core.Path.{refl, ap, _∙_}
 use native.Mathlib.Omega.{arith}
 use borrow.Author.Needs.{needs}
-use Rattle.editor.specs.Bytes.{quarter}
-use Rattle.editor.specs.Promise.{cleared}
+use Rattle.editor.specs.Rules.Bytes.{quarter}
+use Rattle.editor.specs.Wording.Promise.{cleared}
 use Rattle.editor.proofs.Laws.Replies.{quote-done}
 use Rattle.editor.proofs.quotations.quote_key.Statement.{statement}
 use Rattle.editor.proofs.quotations.quote_key.Tie as tie
@@ -32,7 +32,8 @@ same-length c = search needs
 returns : tie.Need-returns
 unfolding quarter
 returns c =
-    let done : tie.After-edited = search in let taken : tie.After-cleared = search in let mode : tie.After-other-mode = search in let freed : tie.After-vacate = search in let start : tie.Start = search in
+    let done : tie.After-edited = search in let taken : tie.After-cleared = search in let mode : tie.After-other-mode = search in
+    let freed : tie.After-vacate = search in let start : tie.Start = search in
     let lengths = taken .cleared .ensures ∙ ap (λ mode. cleared mode (start .args .n)) (mode .other-mode .ensures) in
     λ text recall sound. quote-done quarter _ _ sound _ (done .edited .ensures) refl lengths (freed .vacate .ensures)
 

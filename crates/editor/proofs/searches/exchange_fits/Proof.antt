@@ -3,7 +3,7 @@ use Prim.Native.Nat.{_+_, _-_}
 use native.Mathlib.Omega.{arith}
 use borrow.Author.Needs.{needs}
 use borrow.Author.Tests.{not-true, not-false}
-use Rattle.editor.specs.Bytes.{quarter}
+use Rattle.editor.specs.Rules.Bytes.{quarter}
 use Rattle.editor.proofs.Laws.ReplaceRoom.{same-test}
 use Rattle.editor.proofs.searches.exchange_fits.Statement.{statement}
 use Rattle.editor.proofs.searches.exchange_fits.Tie as tie

@@ -2,7 +2,7 @@
 use mathlib.Core.Path.{_∙_}
 use native.Mathlib.Omega.{arith}
 use borrow.Author.Needs.{needs}
-use Rattle.editor.specs.Bytes.{quarter}
+use Rattle.editor.specs.Rules.Bytes.{quarter}
 use Rattle.editor.proofs.Laws.Fitting.{taken-searchable}
 use Rattle.editor.proofs.Laws.HandedOver.{pattern-holds, find-done}
 use Rattle.editor.proofs.searches.find_key.Statement.{statement}
@@ -37,10 +37,20 @@ same-length-2 c = search needs
 returns : tie.Need-returns
 unfolding quarter
 returns c =
-    let found : tie.After-search = search in let taken : tie.After-pattern-taken = search in let handed : tie.After-hand-quotation = search in
+    let found : tie.After-search = search in let taken : tie.After-pattern-taken = search in
+    let handed : tie.After-hand-quotation = search in
     λ recall sound.
     let holds = pattern-holds quarter _ _ sound (taken .pattern-taken .ensures) (handed .hand-quotation .ensures) in
     found .search .ensures _ (holds .sound) ∙ find-done quarter _ _ sound holds _
 
 pub find-key-spec : {M : Type 1} → statement M
-find-key-spec = tie.close (tie.spec mul-hand-quotation hand-quotation-requires pattern-taken-requires search-requires same-length same-length-2 returns)
+find-key-spec =
+    tie.close
+    (tie.spec
+    mul-hand-quotation
+    hand-quotation-requires
+    pattern-taken-requires
+    search-requires
+    same-length
+    same-length-2
+    returns)

@@ -3,9 +3,9 @@ use mathlib.Core.Path.{_≡_, sym, _∙_}
 use native.Mathlib.Omega.{arith}
 use borrow.Author.Needs.{needs}
 use borrow.Author.Tests.{not-true, not-false}
-use Rattle.editor.specs.Keys.{matches}
-use Rattle.editor.specs.Bytes.{quarter, plainOf}
-use Rattle.editor.specs.Promise.{stores}
+use Rattle.editor.specs.Rules.Keys.{matches}
+use Rattle.editor.specs.Rules.Bytes.{quarter, plainOf}
+use Rattle.editor.specs.Wording.Promise.{stores}
 use Rattle.editor.proofs.Laws.Fitting.{fitting}
 use Rattle.editor.proofs.Laws.FindReplace.{pattern-stands}
 use Rattle.editor.proofs.Laws.HandedOver.{replacement-holds, replace-done}
@@ -75,7 +75,8 @@ same-length-2 c = search needs
 
 returns : tie.Need-returns
 returns c =
-    let tested : tie.Then1 = search in let fits : tie.After-exchange-fits = search in let taken : tie.After-replacement-taken = search in let asked : tie.After-text-begins = search in let start = begun asked in
+    let tested : tie.Then1 = search in let fits : tie.After-exchange-fits = search in
+    let taken : tie.After-replacement-taken = search in let asked : tie.After-text-begins = search in let start = begun asked in
     replace-refused quarter _ _ (start .pre) (known asked) _ (taken .replacement-taken .ensures) (fits .exchange-fits .ensures)
     (not-true _ (tested .if1 .taken)) (c .unedited .ensures)
 
@@ -92,7 +93,9 @@ hand-quotation-requires c κs =
 substitute-requires : tie.Need-substitute-requires
 unfolding quarter
 substitute-requires c κs =
-    let handed : tie.After-hand-quotation = search in let tested : tie.Else1 = search in let fits : tie.After-exchange-fits = search in let taken : tie.After-replacement-taken = search in let asked : tie.After-text-begins = search in let start = begun asked in
+    let handed : tie.After-hand-quotation = search in let tested : tie.Else1 = search in
+    let fits : tie.After-exchange-fits = search in let taken : tie.After-replacement-taken = search in
+    let asked : tie.After-text-begins = search in let start = begun asked in
     let holds = replacement-holds quarter _ _ (start .pre) (taken .replacement-taken .ensures) (handed .hand-quotation .ensures) in
     let (match, room) = replace-substitutes quarter _ _ (start .pre) (known asked) _ (taken .replacement-taken .ensures) (fits .exchange-fits .ensures)
     (not-false _ (tested .if1 .left)) holds in
@@ -110,11 +113,35 @@ same-length-5 c = search needs
 returns-2 : tie.Need-returns-2
 unfolding quarter
 returns-2 c =
-    let done : tie.After-substitute = search in let handed : tie.After-hand-quotation = search in let tested : tie.Else1 = search in let fits : tie.After-exchange-fits = search in let taken : tie.After-replacement-taken = search in let asked : tie.After-text-begins = search in let start = begun asked in
+    let done : tie.After-substitute = search in let handed : tie.After-hand-quotation = search in
+    let tested : tie.Else1 = search in let fits : tie.After-exchange-fits = search in
+    let taken : tie.After-replacement-taken = search in let asked : tie.After-text-begins = search in let start = begun asked in
     let holds = replacement-holds quarter _ _ (start .pre) (taken .replacement-taken .ensures) (handed .hand-quotation .ensures) in
     done .substitute .ensures
     ∙ replace-done quarter _ _ (start .pre) holds
     (replace-fits quarter _ _ (start .pre) (known asked) _ (taken .replacement-taken .ensures) (fits .exchange-fits .ensures) (not-false _ (tested .if1 .left)))
 
 pub replace-key-spec : {M : Type 1} → statement M
-replace-key-spec = tie.close (tie.spec mul-end add-end mul-text-begins sub-text-begins part-text-begins-start part-text-begins-end text-begins-requires replacement-taken-requires exchange-fits-requires unedited-requires same-length same-length-2 returns mul-hand-quotation hand-quotation-requires substitute-requires same-length-3 same-length-4 same-length-5 returns-2)
+replace-key-spec =
+    tie.close
+    (tie.spec
+    mul-end
+    add-end
+    mul-text-begins
+    sub-text-begins
+    part-text-begins-start
+    part-text-begins-end
+    text-begins-requires
+    replacement-taken-requires
+    exchange-fits-requires
+    unedited-requires
+    same-length
+    same-length-2
+    returns
+    mul-hand-quotation
+    hand-quotation-requires
+    substitute-requires
+    same-length-3
+    same-length-4
+    same-length-5
+    returns-2)

@@ -3,7 +3,7 @@ use mathlib.Core.Path.{refl}
 use native.Mathlib.Omega.{arith}
 use borrow.Author.Needs.{needs}
 use Rattle.editor.specs.Words.{Main}
-use Rattle.editor.specs.Bytes.{quarter}
+use Rattle.editor.specs.Rules.Bytes.{quarter}
 use Rattle.editor.proofs.Laws.SideEdits.{not-moved, within-room}
 use Rattle.editor.proofs.Laws.Replies.{on-side}
 use Rattle.editor.proofs.Laws.FindReplace.{search-done}
@@ -72,9 +72,28 @@ same-length-2 c = search needs
 returns-2 : tie.Need-returns-2
 unfolding quarter
 returns-2 c =
-    let done : tie.After-lifted = search in let gone : tie.After-move-side = search in let told : tie.After-d = search in let found : tie.After-match-distance = search in
+    let done : tie.After-lifted = search in let gone : tie.After-move-side = search in let told : tie.After-d = search in
+    let found : tie.After-match-distance = search in
     λ recall sound. search-done quarter _ _ sound _ _ _ (found .match-distance .ensures) (told .d .given .1) _ _ _ _ (done .lifted .ensures)
     (gone .move-side .ensures _ (on-side quarter _ _ sound Main))
 
 pub search-spec : {M : Type 1} → statement M
-search-spec = tie.close (tie.spec mul-end add-end mul-match-distance sub-match-distance part-match-distance-start part-match-distance-end match-distance-requires enum-known-d enum-told edited-requires same-length returns move-side-requires lifted-requires same-length-2 returns-2)
+search-spec =
+    tie.close
+    (tie.spec
+    mul-end
+    add-end
+    mul-match-distance
+    sub-match-distance
+    part-match-distance-start
+    part-match-distance-end
+    match-distance-requires
+    enum-known-d
+    enum-told
+    edited-requires
+    same-length
+    returns
+    move-side-requires
+    lifted-requires
+    same-length-2
+    returns-2)

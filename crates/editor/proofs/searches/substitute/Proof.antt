@@ -5,7 +5,7 @@ use borrow.Author.Needs.{needs}
 use borrow.Author.Tests.{not-true, not-false}
 use lib.ListN.{length, length-take, length-drop}
 use Rattle.editor.specs.Words.{Main}
-use Rattle.editor.specs.Bytes.{quarter}
+use Rattle.editor.specs.Rules.Bytes.{quarter}
 use Rattle.editor.proofs.Laws.Replies.{on-side}
 use Rattle.editor.proofs.Laws.Fitting.{fitting}
 use Rattle.editor.proofs.Laws.FindReplace.{Exchangeable, exchangeable, substitute-rings, pattern-dropped, substitute-done}

@@ -30,7 +30,8 @@ same-length c = search needs
 
 returns-2 : tie.Need-returns-2
 returns-2 c =
-    let done : tie.After-done2 = search in let emptied : tie.After-clear = search in let told : tie.After-enum-told2 = search in let start : tie.Start = search in
+    let done : tie.After-done2 = search in let emptied : tie.After-clear = search in let told : tie.After-enum-told2 = search in
+    let start : tie.Start = search in
     rw (told .enum-told2 .given .1) (not-deleted (start .pre) _ (done .done2 .ensures) refl (emptied .clear .ensures))
 
 pub bell-side-spec : {M : Type 1} → statement M

@@ -35,4 +35,15 @@ returns-2 c =
     rw (told .enum-told2 .given .1) (done .delete-side .ensures)
 
 pub carry-side-spec : {M : Type 1} → statement M
-carry-side-spec = tie.close (tie.spec enum-told move-side-requires enum-told-2 delete-side-requires same-length returns same-length-2 same-length-3 returns-2)
+carry-side-spec =
+    tie.close
+    (tie.spec
+    enum-told
+    move-side-requires
+    enum-told-2
+    delete-side-requires
+    same-length
+    returns
+    same-length-2
+    same-length-3
+    returns-2)

@@ -54,7 +54,8 @@ same-length-2 c = search needs
 
 returns : tie.Need-returns
 returns c =
-    let done : tie.After-done = search in let report : tie.After-went = search in let gone : tie.After-delete-left = search in let told : tie.After-enum-told = search in let start : tie.Start = search in
+    let done : tie.After-done = search in let report : tie.After-went = search in let gone : tie.After-delete-left = search in
+    let told : tie.After-enum-told = search in let start : tie.Start = search in
     rw (told .enum-told .given .1)
     (deleted (start .pre .0) Left (done .done .ensures) (report .went .ensures) (rw (told .enum-told .given .1) at (start .pre .1)) refl
     (gone .delete-left .ensures .0) (gone .delete-left .ensures .1))
@@ -67,10 +68,29 @@ same-length-4 c = search needs
 
 returns-2 : tie.Need-returns-2
 returns-2 c =
-    let done : tie.After-done2 = search in let report : tie.After-went2 = search in let gone : tie.After-delete-right = search in let told : tie.After-enum-told2 = search in let start : tie.Start = search in
+    let done : tie.After-done2 = search in let report : tie.After-went2 = search in let gone : tie.After-delete-right = search in
+    let told : tie.After-enum-told2 = search in let start : tie.Start = search in
     rw (told .enum-told2 .given .1)
     (deleted (start .pre .0) Right (done .done2 .ensures) (report .went2 .ensures) (rw (told .enum-told2 .given .1) at (start .pre .1)) refl
     (gone .delete-right .ensures .0) (gone .delete-right .ensures .1))
 
 pub delete-side-spec : {M : Type 1} → statement M
-delete-side-spec = tie.close (tie.spec enum-told delete-left-requires sub-m went-requires done-requires enum-told-2 delete-right-requires sub-m-2 went-requires-2 done-requires-2 same-length same-length-2 returns same-length-3 same-length-4 returns-2)
+delete-side-spec =
+    tie.close
+    (tie.spec
+    enum-told
+    delete-left-requires
+    sub-m
+    went-requires
+    done-requires
+    enum-told-2
+    delete-right-requires
+    sub-m-2
+    went-requires-2
+    done-requires-2
+    same-length
+    same-length-2
+    returns
+    same-length-3
+    same-length-4
+    returns-2)

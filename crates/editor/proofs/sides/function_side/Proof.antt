@@ -21,7 +21,8 @@ same-length c = search needs
 
 returns : tie.Need-returns
 returns c =
-    let rung : tie.After-bell-side = search in let told : tie.After-enum-told = search in let found : tie.After-place-distance = search in let start : tie.Start = search in
+    let rung : tie.After-bell-side = search in let told : tie.After-enum-told = search in
+    let found : tie.After-place-distance = search in let start : tie.Start = search in
     by-distance (start .pre) _ _ _ (found .place-distance .ensures) (told .enum-told .given .1) (rung .bell-side .ensures)
 
 carry-side-requires : tie.Need-carry-side-requires
@@ -40,8 +41,22 @@ same-length-4 c = search needs
 
 returns-2 : tie.Need-returns-2
 returns-2 c =
-    let done : tie.After-carry-side = search in let told : tie.After-d = search in let found : tie.After-place-distance = search in let start : tie.Start = search in
+    let done : tie.After-carry-side = search in let told : tie.After-d = search in
+    let found : tie.After-place-distance = search in let start : tie.Start = search in
     by-distance (start .pre) _ _ _ (found .place-distance .ensures) (told .d .given .1) (done .carry-side .ensures)
 
 pub function-side-spec : {M : Type 1} → statement M
-function-side-spec = tie.close (tie.spec place-distance-requires enum-known-d enum-told bell-side-requires same-length same-length-2 returns carry-side-requires same-length-3 same-length-4 returns-2)
+function-side-spec =
+    tie.close
+    (tie.spec
+    place-distance-requires
+    enum-known-d
+    enum-told
+    bell-side-requires
+    same-length
+    same-length-2
+    returns
+    carry-side-requires
+    same-length-3
+    same-length-4
+    returns-2)

@@ -52,4 +52,20 @@ returns-3 c =
     rw (told .enum-told .given .1) (done .recall-side .ensures)
 
 pub on-side-spec : {M : Type 1} → statement M
-on-side-spec = tie.close (tie.spec enum-known-e insert-side-requires enum-known-e-2 function-side-requires enum-told recall-side-requires same-length returns same-length-2 same-length-3 returns-2 same-length-4 same-length-5 returns-3)
+on-side-spec =
+    tie.close
+    (tie.spec
+    enum-known-e
+    insert-side-requires
+    enum-known-e-2
+    function-side-requires
+    enum-told
+    recall-side-requires
+    same-length
+    returns
+    same-length-2
+    same-length-3
+    returns-2
+    same-length-4
+    same-length-5
+    returns-3)

@@ -39,8 +39,22 @@ same-length c = search needs
 
 returns-2 : tie.Need-returns-2
 returns-2 c =
-    let done : tie.After-done = search in let placed : tie.After-place-pair = search in let tested : tie.Else1 = search in let start : tie.Start = search in
+    let done : tie.After-done = search in let placed : tie.After-place-pair = search in let tested : tie.Else1 = search in
+    let start : tie.Start = search in
     recall-done (start .pre) (done .done .ensures) refl (tested .if1 .left) (placed .place-pair .ensures)
 
 pub recall-side-spec : {M : Type 1} → statement M
-recall-side-spec = tie.close (tie.spec add-if1 sub-if1 add-if1-2 full-requires returns place-pair-requires add-m add-m-2 done-requires same-length returns-2)
+recall-side-spec =
+    tie.close
+    (tie.spec
+    add-if1
+    sub-if1
+    add-if1-2
+    full-requires
+    returns
+    place-pair-requires
+    add-m
+    add-m-2
+    done-requires
+    same-length
+    returns-2)

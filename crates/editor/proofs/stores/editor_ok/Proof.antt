@@ -2,8 +2,8 @@
 use native.Mathlib.Omega.{arith}
 use lib.ListN.{length-take}
 use borrow.Author.Needs.{needs}
-use Rattle.gap.specs.Sequence.{part}
-use Rattle.editor.specs.Bytes.{quarter, editorOk}
+use Rattle.gap.specs.Rules.Sequence.{part}
+use Rattle.editor.specs.Rules.Bytes.{quarter, editorOk}
 use Rattle.editor.proofs.Laws.Session.{measured}
 use Rattle.editor.proofs.stores.editor_ok.Statement.{statement}
 use Rattle.editor.proofs.stores.editor_ok.Tie as tie

@@ -1,7 +1,7 @@
 -- `sized_stores` is the definition's test, with a quarter's length written out.
 use mathlib.Core.Path.{refl}
 use borrow.Author.Needs.{needs}
-use Rattle.editor.specs.Bytes.{quarter, sized}
+use Rattle.editor.specs.Rules.Bytes.{quarter, sized}
 use Rattle.editor.proofs.stores.sized_stores.Statement.{statement}
 use Rattle.editor.proofs.stores.sized_stores.Tie as tie
 

@@ -3,7 +3,7 @@ use mathlib.Core.Path.{refl}
 use Prim.Native.Nat.{_-_}
 use native.Mathlib.Omega.{arith}
 use lib.ListN.{length}
-use Rattle.gap.specs.Decimal.{digit}
+use Rattle.gap.specs.Rules.Decimal.{digit}
 use Rattle.gap.proofs.Laws.Scans.{Tested, tested-start, tested-more, tested-all}
 use Rattle.gap.proofs.decimals.all_digits.Statement.{statement}
 use Rattle.gap.proofs.decimals.all_digits.Tie as tie

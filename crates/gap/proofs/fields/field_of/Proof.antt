@@ -1,8 +1,8 @@
 -- `fields::field_of` meets its contract: a line that begins with the word is as long, and what stands behind the word is lent.
 use borrow.Author.Needs.{needs}
-use Rattle.gap.specs.Decimal.{numberOf}
+use Rattle.gap.specs.Rules.Decimal.{numberOf}
 use Rattle.gap.specs.declared.Number.the-variants.{Unreadable}
-use Rattle.gap.specs.Fields.{fieldOf}
+use Rattle.gap.specs.Rules.Fields.{fieldOf}
 use Rattle.gap.proofs.Laws.Fields.{word-fits, word-none, word-read}
 use Rattle.gap.proofs.fields.field_of.Statement.{statement}
 use Rattle.gap.proofs.fields.field_of.Tie as tie

@@ -3,7 +3,7 @@ use native.Mathlib.Omega.{arith}
 use borrow.Author.Needs.{needs}
 use Rattle.gap.proofs.Laws.Writers.{then}
 use Rattle.gap.proofs.Laws.Decimals.{decimal-short}
-use Rattle.gap.specs.Fields.{entry}
+use Rattle.gap.specs.Rules.Fields.{entry}
 use Rattle.gap.proofs.fields.put_entry.Statement.{statement}
 use Rattle.gap.proofs.fields.put_entry.Tie as tie
 

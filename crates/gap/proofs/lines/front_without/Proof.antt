@@ -3,7 +3,7 @@ use Prim.Native.Nat.{_-_}
 use native.Mathlib.Omega.{arith}
 use lib.ListN.{length}
 use borrow.Author.Needs.{needs}
-use Rattle.gap.specs.Lines.{Unbroken}
+use Rattle.gap.specs.Rules.Lines.{Unbroken}
 use Rattle.gap.proofs.Laws.LineScans.{unbroken-none, unbroken-block, unbroken-both}
 use Rattle.gap.proofs.lines.front_without.Statement.{statement}
 use Rattle.gap.proofs.lines.front_without.Tie as tie

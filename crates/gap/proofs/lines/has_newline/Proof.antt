@@ -5,7 +5,7 @@ use Prim.Native.Nat.{_-_}
 use native.Mathlib.Omega.{arith}
 use lib.Dec.{eqb}
 use lib.ListN.{length}
-use Rattle.gap.specs.Lines.{newline}
+use Rattle.gap.specs.Rules.Lines.{newline}
 use Rattle.gap.proofs.Laws.Scans.{Tested, tested-start, tested-more, tested-all}
 use Rattle.gap.proofs.lines.has_newline.Statement.{statement}
 use Rattle.gap.proofs.lines.has_newline.Tie as tie

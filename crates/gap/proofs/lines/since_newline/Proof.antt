@@ -2,7 +2,7 @@
 use native.Mathlib.Omega.{arith}
 use lib.ListN.{length}
 use borrow.Author.Needs.{needs}
-use Rattle.gap.specs.Lines.{Unbroken}
+use Rattle.gap.specs.Rules.Lines.{Unbroken}
 use Rattle.gap.proofs.Laws.LineScans.{unbroken-byte, unbroken-both, since-found, since-none}
 use Rattle.gap.proofs.lines.since_newline.Statement.{statement}
 use Rattle.gap.proofs.lines.since_newline.Tie as tie

@@ -3,7 +3,7 @@ use mathlib.Core.Path.{refl, sym, ap₂, _∙_}
 use native.Mathlib.Omega.{arith}
 use lib.Seq.{length-take-le}
 use borrow.Author.Needs.{needs}
-use Rattle.gap.specs.Sequence.{patch}
+use Rattle.gap.specs.Rules.Sequence.{patch}
 use Rattle.gap.proofs.Laws.Runs.{part-front}
 use Rattle.gap.proofs.runs.carry.Statement.{statement}
 use Rattle.gap.proofs.runs.carry.Tie as tie

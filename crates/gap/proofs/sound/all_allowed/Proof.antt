@@ -3,7 +3,7 @@ use Prim.Native.Nat.{_-_}
 use native.Mathlib.Omega.{arith}
 use lib.ListN.{length}
 use borrow.Author.Needs.{needs}
-use Rattle.gap.specs.Layout.{allowed}
+use Rattle.gap.specs.Rules.Layout.{allowed}
 use Rattle.gap.proofs.Laws.Scans.{Tested, tested-start, tested-more, tested-all}
 use Rattle.gap.proofs.sound.all_allowed.Statement.{statement}
 use Rattle.gap.proofs.sound.all_allowed.Tie as tie

@@ -3,7 +3,7 @@ use mathlib.Core.Path.{refl}
 use Prim.Native.Nat.{_-_}
 use native.Mathlib.Omega.{arith}
 use lib.ListN.{length}
-use Rattle.gap.specs.Layout.{free}
+use Rattle.gap.specs.Rules.Layout.{free}
 use Rattle.gap.proofs.Laws.Scans.{Tested, tested-start, tested-more, tested-all}
 use Rattle.gap.proofs.sound.all_free.Statement.{statement}
 use Rattle.gap.proofs.sound.all_free.Tie as tie

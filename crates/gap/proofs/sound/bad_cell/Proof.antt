@@ -4,7 +4,7 @@ use Prim.Native.Nat.{_-_}
 use native.Mathlib.Omega.{arith}
 use lib.ListN.{length}
 use borrow.Author.Needs.{needs}
-use Rattle.gap.specs.Layout.{printable}
+use Rattle.gap.specs.Rules.Layout.{printable}
 use Rattle.gap.proofs.Laws.Scans.{PassedUpTo, passed-start, passed-found, passed-more, passed-all, every-nowhere}
 use Rattle.gap.proofs.sound.bad_cell.Statement.{statement}
 use Rattle.gap.proofs.sound.bad_cell.Tie as tie

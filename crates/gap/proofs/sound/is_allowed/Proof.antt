@@ -3,7 +3,7 @@ use mathlib.Core.Path.{ap}
 use mathlib.Core.Bool.{_||_}
 use lib.Dec.{eqb}
 use borrow.Author.Needs.{needs}
-use Rattle.gap.specs.Lines.{newline}
+use Rattle.gap.specs.Rules.Lines.{newline}
 use Rattle.gap.proofs.sound.is_allowed.Statement.{statement}
 use Rattle.gap.proofs.sound.is_allowed.Tie as tie
 

@@ -2,7 +2,7 @@
 use mathlib.Core.Path.{ap, _∙_}
 use borrow.Author.Needs.{needs}
 use Rattle.gap.specs.declared.Direction.the-variants.{Right}
-use Rattle.gap.specs.Layout.{gapped}
+use Rattle.gap.specs.Rules.Layout.{gapped}
 use Rattle.gap.proofs.Laws.Doc.{deletions-right}
 use Rattle.gap.proofs.Laws.Stores.{deletes}
 use Rattle.gap.proofs.texts.drop_right.Statement.{statement}

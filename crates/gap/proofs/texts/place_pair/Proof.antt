@@ -3,7 +3,7 @@ use mathlib.Core.Path.{sym, ap, _∙_}
 use native.Mathlib.Omega.{arith}
 use lib.Seq.{length-take-le}
 use borrow.Author.Needs.{needs}
-use Rattle.gap.specs.Sequence.{patch}
+use Rattle.gap.specs.Rules.Sequence.{patch}
 use Rattle.gap.proofs.Laws.Stores.{places}
 use Rattle.gap.proofs.texts.place_pair.Statement.{statement}
 use Rattle.gap.proofs.texts.place_pair.Tie as tie

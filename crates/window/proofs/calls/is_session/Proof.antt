@@ -2,8 +2,8 @@
 use mathlib.Core.Path.{sym, _∙_}
 use borrow.Author.Tests.{not-true, not-false}
 use borrow.Author.Needs.{needs}
-use Rattle.editor.specs.Bytes.{quarter}
-use Rattle.editor.specs.Promise.{Sound, stores}
+use Rattle.editor.specs.Rules.Bytes.{quarter}
+use Rattle.editor.specs.Wording.Promise.{Sound, stores}
 use Rattle.window.proofs.Laws.KeyCall.{texts-held, no-session, session-so}
 use Rattle.window.proofs.calls.is_session.Statement.{statement}
 use Rattle.window.proofs.calls.is_session.Tie as tie

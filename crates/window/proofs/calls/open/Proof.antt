@@ -3,8 +3,8 @@
 use mathlib.Core.Path.{sym, _∙_}
 use borrow.Author.Needs.{needs}
 use lib.Seq.{length-take-le}
-use Rattle.window.specs.Core.{Lent}
-use Rattle.window.specs.Calls.{lent}
+use Rattle.window.specs.Rules.Core.{Lent}
+use Rattle.window.specs.Wording.Calls.{lent}
 use Rattle.window.proofs.Laws.OpeningCall.{size-refused, stores-fit, long-refused, text-refused, text-accepted}
 use Rattle.window.proofs.calls.open.Statement.{statement}
 use Rattle.window.proofs.calls.open.Tie as tie

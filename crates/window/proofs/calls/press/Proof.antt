@@ -3,10 +3,10 @@ use mathlib.Core.Path.{_≡_, sym, _∙_}
 use mathlib.Core.Bool.{true}
 use borrow.Author.Tests.{not-true, not-false}
 use borrow.Author.Needs.{needs}
-use Rattle.editor.specs.Bytes.{quarter}
-use Rattle.editor.specs.Promise.{Sound, stores}
-use Rattle.window.specs.Core.{Lent, tabled, isSession}
-use Rattle.window.specs.Calls.{lent}
+use Rattle.editor.specs.Rules.Bytes.{quarter}
+use Rattle.editor.specs.Wording.Promise.{Sound, stores}
+use Rattle.window.specs.Rules.Core.{Lent, tabled, isSession}
+use Rattle.window.specs.Wording.Calls.{lent}
 use Rattle.window.proofs.Laws.KeyCall.{texts-held, refused-size, refused-session, Accepted, press-refused, press-done, session-sound}
 use Rattle.window.proofs.Laws.Views.{tabled-facts}
 use Rattle.window.proofs.calls.press.Statement.{statement}

@@ -1,6 +1,6 @@
 -- `show` follows the cursor, paints and names rows: what the definition shows of the state held, whatever the recall store holds.
 use borrow.Author.Needs.{needs}
-use Rattle.window.specs.Calls.{virtualHeld}
+use Rattle.window.specs.Wording.Calls.{virtualHeld}
 use Rattle.window.proofs.Laws.KeyCall.{row-from-one, still-visible, offset-row, offset-column, shown-canvas, shows-so}
 use Rattle.window.proofs.calls.show.Statement.{statement}
 use Rattle.window.proofs.calls.show.Tie as tie

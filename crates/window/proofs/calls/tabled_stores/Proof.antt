@@ -4,7 +4,7 @@ use mathlib.Core.Bool.{true}
 use native.Mathlib.Omega.{arith}
 use borrow.Author.Tests.{not-true, not-false}
 use borrow.Author.Needs.{needs}
-use Rattle.window.specs.Core.{rowsAndColumns}
+use Rattle.window.specs.Rules.Core.{rowsAndColumns}
 use Rattle.window.proofs.Laws.KeyCall.{not-tabled, tabled-so, product-small}
 use Rattle.window.proofs.calls.tabled_stores.Statement.{statement}
 use Rattle.window.proofs.calls.tabled_stores.Tie as tie

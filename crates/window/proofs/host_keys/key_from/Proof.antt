@@ -1,7 +1,7 @@
 -- `host_keys::key_from` meets its contract: its tests are the definition's.
 use borrow.Author.Needs.{needs}
 use borrow.Author.Tests.{ne-eqb}
-use Rattle.window.specs.Host.{keyFrom}
+use Rattle.window.specs.Rules.Host.{keyFrom}
 use Rattle.window.proofs.host_keys.key_from.Statement.{statement}
 use Rattle.window.proofs.host_keys.key_from.Tie as tie
 

@@ -3,7 +3,7 @@ use mathlib.Core.Path.{sym, _∙_}
 use Prim.Native.Nat.{_-_}
 use native.Mathlib.Omega.{arith}
 use lib.ListN.{length}
-use Rattle.window.specs.Painter.{sheet}
+use Rattle.window.specs.Wording.Painter.{sheet}
 use Rattle.window.proofs.Laws.Drawing.{Drawn, drawn-none, drawn-in-row, drawn-run, drawn-line, drawn-over, drawn-all}
 use Rattle.window.proofs.Laws.Drawing.{run-asks, line-asks}
 use Rattle.window.proofs.painter.draw.Statement.{statement}

@@ -2,7 +2,7 @@
 use mathlib.Core.Path.{sym, _∙_}
 use Prim.Native.Nat.{_+_, _-_}
 use native.Mathlib.Omega.{arith}
-use Rattle.window.specs.Painter.{sheet}
+use Rattle.window.specs.Wording.Painter.{sheet}
 use Rattle.window.proofs.Laws.Drawing.{Finished, finished-none, end-asks, finished-line, finished-all}
 use Rattle.window.proofs.painter.finish.Statement.{statement}
 use Rattle.window.proofs.painter.finish.Tie as tie

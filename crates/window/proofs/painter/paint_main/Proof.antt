@@ -5,7 +5,7 @@ use native.Mathlib.Omega.{arith}
 use lib.ListN.{take, length-take}
 use borrow.Author.Needs.{needs}
 use Rattle.window.specs.declared.Pen.{Pen}
-use Rattle.window.specs.Painter.{sheet}
+use Rattle.window.specs.Wording.Painter.{sheet}
 use Rattle.window.proofs.Laws.Pieces.{Pieces, pieces-none, pieces-next, pieces-on, pieces-all, front-short, tail-short, main-pieces}
 use Rattle.window.proofs.painter.paint_main.Statement.{statement}
 use Rattle.window.proofs.painter.paint_main.Tie as tie

@@ -3,7 +3,7 @@ use mathlib.Core.Path.{_∙_}
 use native.Mathlib.Omega.{arith}
 use borrow.Author.Needs.{needs}
 use borrow.Author.Tests.{le-ltb}
-use Rattle.window.specs.Painter.{sheet}
+use Rattle.window.specs.Wording.Painter.{sheet}
 use Rattle.gap.proofs.Laws.Lines.{newlines-fit}
 use Rattle.window.proofs.Laws.Pieces.{piece-above, FirstLine, piece-lines, first-line, piece-asked, piece-painted}
 use Rattle.window.proofs.painter.paint_piece.Statement.{statement}

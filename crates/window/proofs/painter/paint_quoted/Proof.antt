@@ -5,10 +5,10 @@ use Prim.Native.Nat.{ℕ, _-_, _^_, _≤_}
 use native.Mathlib.Omega.{arith}
 use lib.ListN.{length, take, length-take}
 use borrow.Author.Needs.{needs}
-use Rattle.gap.specs.Lines.{newline}
+use Rattle.gap.specs.Rules.Lines.{newline}
 use Rattle.gap.proofs.Laws.Runs.{tailOf}
 use Rattle.window.specs.declared.Pen.{Pen}
-use Rattle.window.specs.Painter.{sheet}
+use Rattle.window.specs.Wording.Painter.{sheet}
 use Rattle.window.proofs.Laws.Pieces.{Pieces, pieces-none, pieces-next, pieces-on, pieces-all, front-short, tail-short, quoted-pieces}
 use Rattle.window.proofs.painter.paint_quoted.Statement.{statement}
 use Rattle.window.proofs.painter.paint_quoted.Tie as tie

@@ -2,9 +2,9 @@
 use mathlib.Core.List.{List}
 use Prim.Native.Nat.{ℕ}
 use borrow.Author.Needs.{needs}
-use Rattle.editor.specs.Bytes.{quarter}
+use Rattle.editor.specs.Rules.Bytes.{quarter}
 use Rattle.window.specs.declared.Pen.{Pen}
-use Rattle.window.specs.Painter.{sheet}
+use Rattle.window.specs.Wording.Painter.{sheet}
 use Rattle.window.proofs.Laws.Refresh.{main-held, quoted-held, quarter-size, quoted-asked}
 use Rattle.window.proofs.Laws.Refresh.{AllPainted, all-painted, finish-asked, refreshed}
 use Rattle.window.proofs.painter.refresh.Statement.{statement}

@@ -3,7 +3,7 @@ use Prim.Native.Nat.{_-_}
 use native.Mathlib.Omega.{arith}
 use lib.ListN.{length}
 use borrow.Author.Needs.{needs}
-use Rattle.gap.specs.Lines.{Unbroken}
+use Rattle.gap.specs.Rules.Lines.{Unbroken}
 use Rattle.gap.proofs.Laws.LineScans.{unbroken-byte, unbroken-both}
 use Rattle.window.proofs.Laws.Drawing.{run-ends}
 use Rattle.window.proofs.painter.run_end.Statement.{statement}

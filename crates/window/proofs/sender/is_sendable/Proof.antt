@@ -4,7 +4,7 @@ use mathlib.Core.Bool.{true}
 use native.Mathlib.Omega.{arith}
 use borrow.Author.Tests.{not-true, not-false}
 use borrow.Author.Needs.{needs}
-use Rattle.window.specs.Core.{rowsAndColumns}
+use Rattle.window.specs.Rules.Core.{rowsAndColumns}
 use Rattle.window.proofs.Laws.KeyCall.{product-small}
 use Rattle.window.proofs.Laws.SendCall.{not-sendable, sendable-so}
 use Rattle.window.proofs.sender.is_sendable.Statement.{statement}

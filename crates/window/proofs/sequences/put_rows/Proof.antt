@@ -3,7 +3,7 @@ use Prim.Native.Nat.{_-_}
 use native.Mathlib.Omega.{arith}
 use borrow.Author.Needs.{needs}
 use Rattle.gap.proofs.Laws.Writers.{wrote-length}
-use Rattle.window.specs.Sequences.{sentRows}
+use Rattle.window.specs.Rules.Sequences.{sentRows}
 use Rattle.window.proofs.Laws.Sequences.{RowsSent, some-first, row-number, row-inside, sent-none, sent-room, sent-more, sent-all}
 use Rattle.window.proofs.sequences.put_rows.Statement.{statement}
 use Rattle.window.proofs.sequences.put_rows.Tie as tie

@@ -2,7 +2,7 @@
 use native.Mathlib.Omega.{arith}
 use borrow.Author.Needs.{needs}
 use Rattle.gap.proofs.Laws.Writers.{then}
-use Rattle.window.specs.Sequences.{sentSpot}
+use Rattle.window.specs.Rules.Sequences.{sentSpot}
 use Rattle.window.proofs.Laws.Sequences.{length-spot}
 use Rattle.window.proofs.sequences.put_spot.Statement.{statement}
 use Rattle.window.proofs.sequences.put_spot.Tie as tie

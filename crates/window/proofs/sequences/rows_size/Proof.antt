@@ -3,7 +3,7 @@ use mathlib.Core.Path.{_≡_, refl}
 use Prim.Native.Nat.{_-_, _≤_}
 use native.Mathlib.Omega.{arith}
 use borrow.Author.Needs.{needs}
-use Rattle.window.specs.Writing.{rowsSize}
+use Rattle.window.specs.Wording.Writing.{rowsSize}
 use Rattle.window.proofs.Laws.Sequences.{named-row, spot-small, rows-small, size-more, size-all}
 use Rattle.window.proofs.sequences.rows_size.Statement.{statement}
 use Rattle.window.proofs.sequences.rows_size.Tie as tie

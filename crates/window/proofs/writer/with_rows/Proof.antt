@@ -36,10 +36,10 @@ use denote.Triple.Spec.{Meets, tripleOf}
 use denote.Triple.Statement.{Contract, Triple}
 use denote.Triple.Table.{entered, cited}
 use denote.Triple.Walked.{says, Stays, walkOf, ends-at, walked}
-use Rattle.gap.specs.Written.{Wrote}
+use Rattle.gap.specs.Wording.Written.{Wrote}
 use Rattle.gap.proofs.Laws.Writers.{wrote-length}
-use Rattle.window.specs.Sequences.{sentRows}
-use Rattle.window.specs.Writing.{RowsIn}
+use Rattle.window.specs.Rules.Sequences.{sentRows}
+use Rattle.window.specs.Wording.Writing.{RowsIn}
 use Rattle.window.proofs.Laws.Writer.{wrote-filled}
 use Rattle.window.proofs.Walks.Apart.{holding, slice, valueOf, called, apart, together}
 use Rattle.window.proofs.Walks.Held.{let-go, let-go-goes, number-quiet}

@@ -34,9 +34,9 @@ use denote.Triple.Spec.{Meets, tripleOf}
 use denote.Triple.Statement.{Contract, Triple}
 use denote.Triple.Table.{entered, cited}
 use denote.Triple.Walked.{says, needs, Stays, walkOf, ends-at, walked}
-use Rattle.gap.specs.Written.{Wrote}
+use Rattle.gap.specs.Wording.Written.{Wrote}
 use Rattle.gap.proofs.Laws.Writers.{wrote-length}
-use Rattle.window.specs.Sequences.{sentSpot}
+use Rattle.window.specs.Rules.Sequences.{sentSpot}
 use Rattle.window.proofs.Walks.Apart.{holding, slice, valueOf, called, apart}
 use Rattle.window.proofs.Walks.Held.{let-go, let-go-goes, number-quiet, handed-on, handed, handed-on-goes}
 use Rattle.window.proofs.Walks.Steps.{promise, count, idle, passes-number, arg, stores, stored, gone, counted, calls, keeps}

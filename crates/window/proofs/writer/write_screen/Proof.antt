@@ -38,11 +38,11 @@ use denote.Triple.Spec.{Meets, tripleOf}
 use denote.Triple.Statement.{Contract, Triple}
 use denote.Triple.Table.{entered, cited}
 use denote.Triple.Walked.{says, Stay, Stays, stay-dropped, gave-slice, goes-gave-slice, Goes, walkOf, ends-at, walked}
-use Rattle.gap.specs.Written.{Wrote}
+use Rattle.gap.specs.Wording.Written.{Wrote}
 use Rattle.gap.proofs.Laws.Writers.{wrote-length}
 use Rattle.window.specs.declared.writer.Writer.{Writer}
-use Rattle.window.specs.Sequences.{sentSpot, sentRows}
-use Rattle.window.specs.Writing.{RowsIn, filled}
+use Rattle.window.specs.Rules.Sequences.{sentSpot, sentRows}
+use Rattle.window.specs.Wording.Writing.{RowsIn, filled}
 use Rattle.window.proofs.Laws.Writer.{first-run-fits, second-run-fits, both-runs}
 use Rattle.window.proofs.Walks.Apart.{holding, slice, called}
 use Rattle.window.proofs.Walks.Held.{dropped-goes, number-quiet}
