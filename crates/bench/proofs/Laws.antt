@@ -1,8 +1,6 @@
 -- Laws of the bench program.
-pub mod Compared
 pub mod KeyTable
 pub mod KeyNames
-pub mod ScriptLines
 pub mod Scripts
 pub mod Printed
 pub mod Beginnings

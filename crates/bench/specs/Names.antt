@@ -74,6 +74,10 @@ atRow Nowhere = Unnamed
 unfoldable pub functionNamed : List ℕ → Naming
 functionNamed name = atRow (nearest (λ i. sameBytes name (nameOf (combinationAt i))) 20 0)
 
+-- How many digits a number may have. (01, the bench program: numbers.)
+abbrev pub mostDigits : ℕ
+mostDigits = 5
+
 -- An insert's number is a byte. Whether the byte is allowed is the core's to say. (01, the bench program: at most 255. DECISIONS A9.)
 abbrev pub insertNumbered : Number → Naming
 insertNumbered (Read n) = cond (leb n 255) (Named (Insert n)) Unnamed
@@ -81,7 +85,7 @@ insertNumbered Unreadable = Unnamed
 
 unfoldable pub keyNamed : List ℕ → Naming
 keyNamed name =
-    cond (begins (bytes "insert-") name) (insertNumbered (numberOf (drop 7 name)))
+    cond (begins (bytes "insert-") name) (insertNumbered (numberOf mostDigits (drop 7 name)))
     (cond (sameBytes name (bytes "recall")) (Named Recall)
     (cond (sameBytes name (bytes "quote")) (Named Quote)
     (cond (sameBytes name (bytes "find")) (Named (Find Right))

@@ -4,14 +4,10 @@ use Prim.Native.Nat.{_≤_}
 use Rattle.bench.specs.Words.{List, [], _∷_, _++_, cond, ℕ, zero, suc, _*_, eqb, length, take, drop}
 use Rattle.gap.specs.Strings.{bytes}
 use Rattle.gap.specs.Lines.{newline}
-use Rattle.gap.specs.Decimal.{decimal}
+use Rattle.gap.specs.Numbers.{bit}
+use Rattle.gap.specs.Fields.{entry}
 use Rattle.window.specs.declared.Answer.{Answer as windowAnswer}
 use Rattle.window.specs.Core.{Answer}
-use Rattle.window.specs.Host.{bit}
-
--- A word, a number, a newline.
-unfoldable pub entry : List ℕ → ℕ → List ℕ
-entry word n = word ++ (decimal n ++ (newline ∷ []))
 
 -- H entries of W cells each, trailing spaces included.
 unfoldable pub rowsOf : ℕ → ℕ → List ℕ → List ℕ

@@ -2,9 +2,11 @@
 use Rattle.bench.specs.Words.{List, [], _++_, Bool, true, false, cond, ℕ, zero, suc, _+_, _*_, eqb, leb, length, take}
 use Rattle.bench.specs.Words.{Key, Header, Heading, Headed, Broken, Reading, Pressed, Finished, Unknown}
 use Rattle.gap.specs.Sequence.{part, patch, zeros}
+use Rattle.gap.specs.Fields.{lineNumber}
+use Rattle.editor.specs.Bytes.{quarter}
 use Rattle.window.specs.declared.Session.{Session}
 use Rattle.window.specs.Core.{Lent, Called, rowsAndColumns, opened, keyed}
-use Rattle.bench.specs.Script.{lineNumber, headingOf, readingAt}
+use Rattle.bench.specs.Script.{headingOf, readingAt}
 use Rattle.bench.specs.Print.{block, scriptLine}
 
 -- ---- The beginning
@@ -94,7 +96,7 @@ screenSize H W = cond (rowsAndColumns H W) (H * W) 0
 unfoldable pub fresh : Header → Lent
 fresh h =
     record {
-      stores = record { text = zeros (h .store); recall = zeros (h .store); side = zeros 1024 };
+      stores = record { text = zeros (h .store); recall = zeros (h .store); side = zeros (4 * quarter) };
       screen = zeros (screenSize (h .rows) (h .columns));
     }
 

@@ -1,46 +1,14 @@
 -- How a script is read: four header lines, the text, and lines of keys. (01, the bench program.)
-use Rattle.bench.specs.Words.{List, [], _∷_, Bool, _&&_, cond, ℕ, suc, _+_, eqb, ltb, length, take, drop, getD}
+use Rattle.bench.specs.Words.{List, Bool, _&&_, cond, ℕ, _+_, eqb, ltb, length, drop, getD}
 use Rattle.bench.specs.Words.{Number, Read, Unreadable, Heading, Headed, Broken, Naming, Named, Unnamed}
 use Rattle.bench.specs.Words.{Reading, Pressed, Finished, Unknown}
 use Rattle.gap.specs.Sequence.{begins}
 use Rattle.gap.specs.Strings.{bytes}
-use Rattle.gap.specs.Lines.{newline, newlines}
-use Rattle.gap.specs.Decimal.{numberOf}
-use Rattle.bench.specs.Names.{keyNamed}
-
--- ---- Lines
-
--- What stands before the first newline, or everything where there is none.
-unfoldable pub lineOf : List ℕ → List ℕ
-lineOf [] = []
-lineOf (b ∷ s) = cond (eqb b newline) [] (b ∷ lineOf s)
-
--- The line that starts at a place; where it ends; whether a newline is there; and where the next line starts.
-unfoldable pub lineAt : List ℕ → ℕ → List ℕ
-lineAt s at = lineOf (drop at s)
-
-unfoldable pub endAt : List ℕ → ℕ → ℕ
-endAt s at = at + length (lineAt s at)
-
-abbrev pub ended : List ℕ → ℕ → Bool
-ended s at = ltb (endAt s at) (length s)
-
-unfoldable pub nextAt : List ℕ → ℕ → ℕ
-nextAt s at = cond (ended s at) (suc (endAt s at)) (endAt s at)
-
--- The number of the line that starts at a place: newlines in the text count. (01, the bench program: line number. DECISIONS A7.)
-unfoldable pub lineNumber : List ℕ → ℕ → ℕ
-lineNumber s at = suc (newlines (take at s))
+use Rattle.gap.specs.Lines.{newline}
+use Rattle.gap.specs.Fields.{lineAt, nextAt, headerAt}
+use Rattle.bench.specs.Names.{mostDigits, keyNamed}
 
 -- ---- The header
-
--- A word and the number behind it.
-unfoldable pub fieldOf : List ℕ → List ℕ → Number
-fieldOf word line = cond (begins word line) (numberOf (drop (length word) line)) Unreadable
-
--- Only the last key line may lack its newline, so a header line may not. (DECISIONS A6.)
-unfoldable pub headerAt : List ℕ → List ℕ → ℕ → Number
-headerAt word s at = cond (ended s at) (fieldOf word (lineAt s at)) Unreadable
 
 abbrev pub whenRead : ℕ → Number → (ℕ → Heading) → Heading
 whenRead line (Read n) then = then n
@@ -50,17 +18,18 @@ whenRead line Unreadable then = Broken line
 unfoldable pub textThere : List ℕ → ℕ → ℕ → Bool
 textThere s at n = ltb (at + n) (length s) && eqb (getD s (at + n) 0) newline
 
--- The four numbers and where the text stands; or the number of the first line that cannot be read so, 4 for the text.
+-- The four numbers and where the text stands; or the number of the first line that cannot be read so, 4 for the text. Only the last
+-- key line may lack its newline, so a header line may not. (DECISIONS A6.)
 unfoldable pub headingOf : List ℕ → Heading
 headingOf s =
     let second = nextAt s 0 in
     let third = nextAt s second in
     let fourth = nextAt s third in
     let at = nextAt s fourth in
-    whenRead 1 (headerAt (bytes "rows=") s 0)
-    (λ rows. whenRead 2 (headerAt (bytes "cols=") s second)
-    (λ columns. whenRead 3 (headerAt (bytes "store=") s third)
-    (λ store. whenRead 4 (headerAt (bytes "text=") s fourth)
+    whenRead 1 (headerAt (bytes "rows=") mostDigits s 0)
+    (λ rows. whenRead 2 (headerAt (bytes "cols=") mostDigits s second)
+    (λ columns. whenRead 3 (headerAt (bytes "store=") mostDigits s third)
+    (λ store. whenRead 4 (headerAt (bytes "text=") mostDigits s fourth)
     (λ n. cond (textThere s at n)
     (Headed (record { rows = rows; columns = columns; store = store; length = n; at = at }))
     (Broken 4)))))

@@ -1,8 +1,9 @@
 -- How the promises about turns speak.
 use mathlib.Core.Path.{_≡_}
 use Prim.Native.Nat.{_≤_, _<_}
-use Rattle.bench.specs.Words.{List, true, ℕ, length, Header}
+use Rattle.bench.specs.Words.{List, true, ℕ, _*_, length, Header}
 use Rattle.gap.specs.Written.{Wrote}
+use Rattle.editor.specs.Bytes.{quarter}
 use Rattle.window.specs.Core.{Lent}
 use Rattle.bench.specs.declared.Turn.{Turn}
 use Rattle.bench.specs.Run.{State, Turned, screenSize}
@@ -25,5 +26,5 @@ pub record Onward (t : Turn) (end : ℕ) (u : Turn) : Type 0 where
 pub record AsAsked (h : Header) (b : Lent) : Type 0 where
   pub text : length (b .stores .text) ≡ h .store
   pub recall : length (b .stores .recall) ≡ h .store
-  pub side : length (b .stores .side) ≡ 1024
+  pub side : length (b .stores .side) ≡ 4 * quarter
   pub screen : length (b .screen) ≡ screenSize (h .rows) (h .columns)

@@ -1,5 +1,4 @@
 // The bench program: it reads a script, opens its text, presses its keys, and prints what each call answers.
-mod compare;
 mod print;
 mod run;
 mod script;
@@ -13,6 +12,7 @@ use crate::run::screen_size;
 use editor::Action;
 use editor::Key;
 use editor::Place;
+use editor::QUARTER;
 use gap::Direction;
 use window::Session;
 ghost use Prim.Native.Nat.{_+_, _≤_, _<_};
@@ -104,7 +104,7 @@ fn lend(h: Header, input: &[u8])
 {
     let mut text = [0u8; 4096];
     let mut recall = [0u8; 4096];
-    let mut side = [0u8; 1024];
+    let mut side = [0u8; 4 * QUARTER];
     let mut screen = [0u8; 16384];
     let mut out = [0u8; 17408];
     let store = h.store;

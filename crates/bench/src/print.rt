@@ -1,26 +1,15 @@
 // Printing into a lent store: entries, blocks, and the line that ends an unreadable script.
-use gap::decimals::put_decimal;
+use gap::fields::put_entry;
+use gap::numbers::bit_of;
 use gap::writers::put;
 use window::Answer;
-use window::host::bit_of;
 ghost use mathlib.Core.Path.{_≡_};
 ghost use mathlib.Core.List.{_++_};
 ghost use Prim.Native.Nat.{_+_, _*_, _≤_};
 ghost use lib.ListN.{length};
+ghost use Rattle.gap.specs.Fields.{entry};
 ghost use Rattle.gap.specs.Written.{Wrote};
-ghost use Rattle.bench.specs.Print.{entry, rowsOf, acceptedBlock, refusedBlock, scriptLine, answerOf, Printable};
-
-// A word, a number, a newline. Room is asked for a number of 20 digits, the most that one can have, so that callers count on the
-// length of the word alone.
-fn put_entry(word: &[u8], n: usize, out: &mut [u8], at: usize) -> usize
-    requires { ⌜ at + (length (now word) + 21) ≤ length (now out) ⌝ }
-    ensures { λ next. ⌜ Wrote at (entry (now (word .entry)) n) (now (out .entry)) next (now (out .exit)) ⌝ }
-    ensures { λ next. ⌜ next ≤ at + (length (now (word .entry)) + 21) ⌝ }
-{
-    let number_at = put(word, out, at);
-    let end = put_decimal(n, out, number_at);
-    put(b"\n", out, end)
-}
+ghost use Rattle.bench.specs.Print.{rowsOf, acceptedBlock, refusedBlock, scriptLine, answerOf, Printable};
 
 // Two entries.
 fn put_two(word: &[u8], n: usize, other: &[u8], m: usize, out: &mut [u8], at: usize) -> usize

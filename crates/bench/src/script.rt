@@ -1,79 +1,23 @@
-// Reading a script: its lines, its header, its keys.
+// Reading a script: its header and its keys.
 use crate::Header;
 use crate::Heading;
 use crate::Naming;
 use crate::Reading;
-use crate::compare::begins_with;
 use crate::table::key_named;
 use gap::Number;
-use gap::decimals::number_of;
-use gap::lines::count_newlines;
+use gap::compare::begins_with;
+use gap::fields::end_at;
+use gap::fields::header_at;
+use gap::fields::next_at;
 ghost use mathlib.Core.Path.{_≡_};
 ghost use Prim.Native.Nat.{_≤_};
 ghost use lib.ListN.{length};
-ghost use Rattle.bench.specs.Script.{endAt, nextAt, lineNumber, fieldOf, headerAt, textThere, headingOf, keyOf, readingAt};
+ghost use Rattle.bench.specs.Script.{textThere, headingOf, keyOf, readingAt};
 
-// ---- Lines
-
-// Where the line that starts at `at` ends.
-fn end_at(s: &[u8], at: usize) -> usize
-    requires { ⌜ at ≤ length (now s) ⌝ }
-    ensures { λ end. ⌜ end ≡ endAt (now (s .entry)) at ⌝ }
-{
-    let mut end = at;
-    while end < s.len() {
-        if s[end] == 10 {
-            return end;
-        }
-        end += 1;
-    }
-    end
-}
-
-// Where the next line starts.
-fn next_at(s: &[u8], at: usize) -> usize
-    requires { ⌜ at ≤ length (now s) ⌝ }
-    ensures { λ next. ⌜ next ≡ nextAt (now (s .entry)) at ⌝ }
-{
-    let end = end_at(s, at);
-    if end < s.len() {
-        return end + 1;
-    }
-    end
-}
-
-// The number of the line that starts at `at`.
-pub fn line_number(s: &[u8], at: usize) -> usize
-    requires { ⌜ at ≤ length (now s) ⌝ }
-    ensures { λ n. ⌜ n ≡ lineNumber (now (s .entry)) at ⌝ }
-{
-    count_newlines(&s[..at]) + 1
-}
+// Numbers have at most so many digits.
+pub const DIGITS: usize = 5;
 
 // ---- The header
-
-// The number behind a word, on a line that has nothing else.
-fn field_of(word: &[u8], line: &[u8]) -> Number
-    ensures { λ n. ⌜ n ≡ fieldOf (now (word .entry)) (now (line .entry)) ⌝ }
-{
-    if !begins_with(word, line) {
-        return Number::Unreadable;
-    }
-    let n = word.len();
-    number_of(&line[n..])
-}
-
-// The number of a header line, which must end in a newline.
-fn header_at(word: &[u8], s: &[u8], at: usize) -> Number
-    requires { ⌜ at ≤ length (now s) ⌝ }
-    ensures { λ n. ⌜ n ≡ headerAt (now (word .entry)) (now (s .entry)) at ⌝ }
-{
-    let end = end_at(s, at);
-    if s.len() <= end {
-        return Number::Unreadable;
-    }
-    field_of(word, &s[at..end])
-}
 
 // The n bytes from `at` on and a newline are there. What is left of the input is compared with n, so that no sum wraps.
 fn text_there(s: &[u8], at: usize, n: usize) -> bool
@@ -91,19 +35,19 @@ fn text_there(s: &[u8], at: usize, n: usize) -> bool
 pub fn heading_of(s: &[u8]) -> Heading
     ensures { λ h. ⌜ h ≡ headingOf (now (s .entry)) ⌝ }
 {
-    let Number::Read(rows) = header_at(b"rows=", s, 0) else {
+    let Number::Read(rows) = header_at(b"rows=", DIGITS, s, 0) else {
         return Heading::Broken(1);
     };
     let second = next_at(s, 0);
-    let Number::Read(columns) = header_at(b"cols=", s, second) else {
+    let Number::Read(columns) = header_at(b"cols=", DIGITS, s, second) else {
         return Heading::Broken(2);
     };
     let third = next_at(s, second);
-    let Number::Read(store) = header_at(b"store=", s, third) else {
+    let Number::Read(store) = header_at(b"store=", DIGITS, s, third) else {
         return Heading::Broken(3);
     };
     let fourth = next_at(s, third);
-    let Number::Read(n) = header_at(b"text=", s, fourth) else {
+    let Number::Read(n) = header_at(b"text=", DIGITS, s, fourth) else {
         return Heading::Broken(4);
     };
     let at = next_at(s, fourth);

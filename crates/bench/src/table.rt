@@ -1,13 +1,14 @@
 // The key table, and keys by their names.
 use crate::Entry;
 use crate::Naming;
-use crate::compare::begins_with;
-use crate::compare::same_bytes;
+use crate::script::DIGITS;
 use editor::Action;
 use editor::Key;
 use editor::Place;
 use gap::Direction;
 use gap::Number;
+use gap::compare::begins_with;
+use gap::compare::same_bytes;
 use gap::decimals::number_of;
 ghost use mathlib.Core.Path.{_≡_};
 ghost use Prim.Native.Nat.{_<_};
@@ -221,7 +222,7 @@ pub fn key_named(name: &[u8]) -> Naming
     ensures { λ k. ⌜ k ≡ keyNamed (now (name .entry)) ⌝ }
 {
     if begins_with(b"insert-", name) {
-        return insert_numbered(number_of(&name[7..]));
+        return insert_numbered(number_of(DIGITS, &name[7..]));
     }
     if same_bytes(name, b"recall") {
         return Naming::Named(Key::Recall);

@@ -5,7 +5,6 @@ pub mod Outcomes
 pub mod Sides
 pub mod Turns
 pub mod States
-pub mod RowScans
 pub mod MatchTests
 pub mod MatchScans
 pub mod Quotation

@@ -2,45 +2,20 @@
 // that it stands at none of them.
 use gap::Direction;
 use gap::Search;
+use gap::compare::run_begins;
+use gap::compare::same_run;
 ghost use mathlib.Core.Path.{_≡_};
 ghost use mathlib.Core.Bool.{Bool, true, not};
 ghost use mathlib.Core.List.{List, _++_};
 ghost use Prim.Native.Nat.{ℕ, _+_, _-_, _≤_, _<_};
 ghost use lib.ListN.{length, drop};
 ghost use Rattle.gap.specs.declared.Direction.the-variants.{Left, Right};
-ghost use Rattle.gap.specs.Sequence.{every, sameBytes, begins, counted};
+ghost use Rattle.gap.specs.Sequence.{every, begins, counted};
 ghost use Rattle.gap.specs.Doc.{content};
 ghost use Rattle.gap.specs.Nearest.{nearest, distance};
 ghost use Rattle.gap.specs.Layout.{ungap};
 ghost use Rattle.editor.specs.Keys.{matches};
 ghost use Rattle.editor.specs.Searches.{lowest, matchAway, matchLeft, Reach, likelyAt, Telling};
-
-// Two runs of one length are the same. The loop carries a flag and has neither branch nor exit, so that it is vectorised.
-fn same_run(a: &[u8], b: &[u8]) -> bool
-    requires { ⌜ length (now a) ≡ length (now b) ⌝ }
-    ensures { λ same. ⌜ same ≡ sameBytes (now (a .entry)) (now (b .entry)) ⌝ }
-{
-    let mut same = true;
-    let mut i = 0;
-    while i < a.len() {
-        same = same & (a[i] == b[i]);
-        i += 1;
-    }
-    same
-}
-
-// A run of bytes has the pattern at place `at`.
-pub fn run_begins(t: &[u8], at: usize, pattern: &[u8]) -> bool
-    requires { ⌜ at ≤ length (now t) ⌝ }
-    ensures { λ ok. ⌜ ok ≡ begins (now (pattern .entry)) (drop at (now (t .entry))) ⌝ }
-{
-    let m = pattern.len();
-    if t.len() - at < m {
-        return false;
-    }
-    let end = at + m;
-    same_run(pattern, &t[at..end])
-}
 
 // Two runs, the second behind the first, have the pattern at their front: each has its part of it.
 fn runs_begin(x: &[u8], y: &[u8], pattern: &[u8]) -> bool

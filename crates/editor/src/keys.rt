@@ -22,6 +22,7 @@ use gap::runs::copy_at;
 use gap::runs::copy_front;
 use gap::runs::hold;
 use gap::runs::vacate;
+use gap::sound::is_allowed;
 use gap::texts::drop_right;
 use gap::texts::hand_over;
 use gap::texts::place_pair;
@@ -30,20 +31,13 @@ ghost use mathlib.Core.Bool.{false};
 ghost use Prim.Native.Nat.{_+_, _*_, _^_, _≤_, _<_};
 ghost use lib.ListN.{length, drop};
 ghost use Rattle.gap.specs.Sequence.{patch, zeros};
-ghost use Rattle.gap.specs.Layout.{allowed, paired, ungap};
+ghost use Rattle.gap.specs.Layout.{paired, ungap};
 ghost use Rattle.editor.specs.Plain.{done};
 ghost use Rattle.editor.specs.Keys.{soundFunction, soundKey, onSide, quoted, searched, found, substituted, replaced, pressed, bounded, key};
 ghost use Rattle.editor.specs.Bytes.{quarter, quarterOf, plainOf, edited};
 ghost use Rattle.editor.specs.Promise.{OnSide, Turns, editing, Sound, stores, replied, Edits, Substitutes, replyOf, noSizes, quoteTaken, patternTaken, replacementTaken};
 
 // ---- Which keys are sound
-
-// A byte that a text may have.
-pub fn is_allowed(b: u8) -> bool
-    ensures { λ ok. ⌜ ok ≡ allowed b ⌝ }
-{
-    (b == 10) | ((32 <= b) & (b <= 126))
-}
 
 // All function keys but two.
 pub fn sound_function(action: Action, way: Direction, place: Place) -> bool

@@ -18,13 +18,17 @@ valueAfter n (b ∷ s) = valueAfter (n * 10 + worth b) s
 abbrev pub value : List ℕ → ℕ
 value s = valueAfter 0 s
 
--- 1 to 5 digits, and no zero in front but 0 itself. (01, the bench program: numbers. DECISIONS A14.)
-unfoldable pub isNumber : List ℕ → Bool
-isNumber s =
-    ((leb 1 (length s) && leb (length s) 5) && every digit s) && (eqb (length s) 1 || not (eqb (getD s 0 0) 48))
+-- 1 to so many digits, and no zero in front but 0 itself. (01, the bench program: numbers. DECISIONS A14.)
+unfoldable pub isNumber : ℕ → List ℕ → Bool
+isNumber most s =
+    ((leb 1 (length s) && leb (length s) most) && every digit s) && (eqb (length s) 1 || not (eqb (getD s 0 0) 48))
 
-unfoldable pub numberOf : List ℕ → Number
-numberOf s = cond (isNumber s) (Read (value s)) Unreadable
+unfoldable pub numberOf : ℕ → List ℕ → Number
+numberOf most s = cond (isNumber most s) (Read (value s)) Unreadable
+
+-- Whatever so many digits write fits a machine word.
+abbrev pub wordDigits : ℕ
+wordDigits = 19
 
 -- The digits of n without a zero in front; no more than the first argument says.
 unfoldable pub digitsIn : ℕ → ℕ → List ℕ

@@ -6,7 +6,7 @@ ghost use mathlib.Core.List.{[], _∷_};
 ghost use Prim.Native.Nat.{_+_, _≤_, _<_};
 ghost use lib.ListN.{length};
 ghost use Rattle.gap.specs.Sequence.{every};
-ghost use Rattle.gap.specs.Decimal.{digit, value, isNumber, numberOf, decimal};
+ghost use Rattle.gap.specs.Decimal.{digit, value, wordDigits, isNumber, numberOf, decimal};
 ghost use Rattle.gap.specs.Written.{Wrote};
 
 // Every byte is a digit.
@@ -23,22 +23,22 @@ fn all_digits(s: &[u8]) -> bool
     ok
 }
 
-// The bytes write a number. The length comes first, so that a long line is not gone through.
-fn is_number(s: &[u8]) -> bool
-    ensures { λ r. ⌜ r ≡ isNumber (now (s .entry)) ⌝ }
+// The bytes write a number of at most so many digits. The length comes first, so that a long line is not gone through.
+fn is_number(most: usize, s: &[u8]) -> bool
+    ensures { λ r. ⌜ r ≡ isNumber most (now (s .entry)) ⌝ }
 {
     if s.len() < 1 {
         return false;
     }
-    if 5 < s.len() {
+    if most < s.len() {
         return false;
     }
     all_digits(s) & ((s.len() == 1) | (s[0] != 48))
 }
 
-// What the digits are worth: at most five, so that no sum can wrap.
+// What the digits are worth: there are no more than a machine word has room for, so that no sum can wrap.
 fn value_of(s: &[u8]) -> usize
-    requires { ⌜ (length (now s) ≤ 5) × (every digit (now s) ≡ true) ⌝ }
+    requires { ⌜ (length (now s) ≤ wordDigits) × (every digit (now s) ≡ true) ⌝ }
     ensures { λ n. ⌜ n ≡ value (now (s .entry)) ⌝ }
 {
     let mut n: usize = 0;
@@ -51,11 +51,12 @@ fn value_of(s: &[u8]) -> usize
     n
 }
 
-// The number that these bytes write, all of them.
-pub fn number_of(s: &[u8]) -> Number
-    ensures { λ n. ⌜ n ≡ numberOf (now (s .entry)) ⌝ }
+// The number that these bytes write, all of them, in at most so many digits.
+pub fn number_of(most: usize, s: &[u8]) -> Number
+    requires { ⌜ most ≤ wordDigits ⌝ }
+    ensures { λ n. ⌜ n ≡ numberOf most (now (s .entry)) ⌝ }
 {
-    if is_number(s) {
+    if is_number(most, s) {
         return Number::Read(value_of(s));
     }
     Number::Unreadable

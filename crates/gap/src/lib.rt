@@ -1,6 +1,9 @@
-// The gap layer: texts with a cursor, and the bytes that hold them.
+// The gap layer: texts with a cursor, the bytes that hold them, and the small tools that every layer uses.
+pub mod compare;
 pub mod decimals;
+pub mod fields;
 pub mod lines;
+pub mod numbers;
 pub mod runs;
 pub mod sound;
 pub mod texts;

@@ -1,7 +1,8 @@
 // Runs of bytes: clearing, copying, taking a run out of a store into a pair store, and shifting a run within a store.
+use crate::numbers::smaller;
 ghost use mathlib.Core.Path.{_≡_};
 ghost use mathlib.Core.List.{_++_};
-ghost use Prim.Native.Nat.{_+_, _-_, _≤_, _<_, min};
+ghost use Prim.Native.Nat.{_+_, _-_, _≤_, _<_};
 ghost use lib.ListN.{length, take, drop};
 ghost use Rattle.gap.specs.Sequence.{part, patch, zeros};
 
@@ -73,16 +74,6 @@ pub fn take_out(s: &mut [u8], at: usize, d: usize, pair: &mut [u8])
     let end = at + d;
     hold(pair, &s[at..end]);
     vacate(s, at, d);
-}
-
-// The smaller of two numbers.
-pub fn smaller(a: usize, b: usize) -> usize
-    ensures { λ r. ⌜ r ≡ min a b ⌝ }
-{
-    if a < b {
-        return a;
-    }
-    b
 }
 
 // A block of at most 256 bytes is copied from one place to another. It is copied out before it is stored, so that the two places may

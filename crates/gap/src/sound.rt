@@ -9,6 +9,20 @@ ghost use Rattle.gap.specs.Sequence.{every, part};
 ghost use Rattle.gap.specs.Nearest.{nearest};
 ghost use Rattle.gap.specs.Layout.{printable, allowed, free, soundGap, soundPair};
 
+// A byte that is printed.
+fn is_printable(b: u8) -> bool
+    ensures { λ ok. ⌜ ok ≡ printable b ⌝ }
+{
+    (32 <= b) & (b <= 126)
+}
+
+// A byte that a text may have.
+pub fn is_allowed(b: u8) -> bool
+    ensures { λ ok. ⌜ ok ≡ allowed b ⌝ }
+{
+    (b == 10) | is_printable(b)
+}
+
 // Every byte is allowed in a text.
 pub fn all_allowed(s: &[u8]) -> bool
     ensures { λ r. ⌜ r ≡ every allowed (now (s .entry)) ⌝ }
@@ -16,8 +30,7 @@ pub fn all_allowed(s: &[u8]) -> bool
     let mut ok = true;
     let mut i = 0;
     while i < s.len() {
-        let b = s[i];
-        ok = ok & ((b == 10) | ((32 <= b) & (b <= 126)));
+        ok = ok & is_allowed(s[i]);
         i += 1;
     }
     ok
@@ -30,21 +43,22 @@ pub fn all_free(s: &[u8]) -> bool
     let mut ok = true;
     let mut i = 0;
     while i < s.len() {
-        let b = s[i];
-        ok = ok & (b == 0);
+        ok = ok & (s[i] == 0);
         i += 1;
     }
     ok
 }
 
-// The first byte that is not allowed. Byte by byte only as far as that.
+// The first byte that is not allowed. Byte by byte only where there is one.
 pub fn bad_byte(s: &[u8]) -> Search
     ensures { λ r. ⌜ r ≡ nearest (λ i. not (allowed (getD (now (s .entry)) i 0))) (length (now (s .entry))) 0 ⌝ }
 {
+    if all_allowed(s) {
+        return Search::Nowhere;
+    }
     let mut i = 0;
     while i < s.len() {
-        let b = s[i];
-        if !((b == 10) | ((32 <= b) & (b <= 126))) {
+        if !is_allowed(s[i]) {
             return Search::Reached(i);
         }
         i += 1;
@@ -59,8 +73,7 @@ fn all_printable(s: &[u8]) -> bool
     let mut ok = true;
     let mut i = 0;
     while i < s.len() {
-        let b = s[i];
-        ok = ok & ((32 <= b) & (b <= 126));
+        ok = ok & is_printable(s[i]);
         i += 1;
     }
     ok
@@ -75,8 +88,7 @@ pub fn bad_cell(s: &[u8]) -> Search
     }
     let mut i = 0;
     while i < s.len() {
-        let b = s[i];
-        if !((32 <= b) & (b <= 126)) {
+        if !is_printable(s[i]) {
             return Search::Reached(i);
         }
         i += 1;

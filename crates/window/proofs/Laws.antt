@@ -1,7 +1,6 @@
 pub mod Window
 pub mod Rows
 pub mod Views
-pub mod Order
 pub mod Spots
 pub mod Pieces
 pub mod Paint

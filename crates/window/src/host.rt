@@ -15,13 +15,14 @@ use editor::Mode;
 use editor::Place;
 use editor::Sizes;
 use gap::Direction;
+use gap::numbers::bit_of;
 ghost use mathlib.Core.Path.{_≡_};
 ghost use Rattle.window.specs.Calls.{lent};
 ghost use Rattle.window.specs.Core.{refusal};
 ghost use Rattle.window.specs.Painting.{painting};
 ghost use Rattle.window.specs.Writing.{outcomeOf};
 ghost use Rattle.window.specs.Host.{modeOf, sessionFrom, insertFrom, directionFrom, actionFrom, placeFrom, functionFrom};
-ghost use Rattle.window.specs.Host.{findFrom, keyFrom, modeNumber, bit, recordFrom, numbersOf, saidOf, given, hostOpened, hostKeyed};
+ghost use Rattle.window.specs.Host.{findFrom, keyFrom, modeNumber, recordFrom, numbersOf, saidOf, given, hostOpened, hostKeyed};
 
 // The session record in document order: lengths of the document left and right of its cursor, of the quotation, of both halves of the
 // document's recall text and of the quotation's, of both halves of the replacement, of the pattern; mode; offsets; rows and columns.
@@ -210,15 +211,6 @@ fn mode_number(mode: Mode) -> usize
         Mode::Main => 0,
         Mode::Quoted => 1,
     }
-}
-
-pub fn bit_of(b: bool) -> usize
-    ensures { λ n. ⌜ n ≡ bit b ⌝ }
-{
-    if b {
-        return 1;
-    }
-    0
 }
 
 fn record_from(s: Session) -> Record

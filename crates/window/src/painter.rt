@@ -8,9 +8,12 @@ use editor::Mode;
 use gap::lines::count_newlines;
 use gap::lines::front_without;
 use gap::lines::since_newline;
+use gap::numbers::excess;
+use gap::numbers::larger;
+use gap::numbers::smaller;
 ghost use mathlib.Core.Path.{_≡_};
 ghost use mathlib.Core.Bool.{not, true, false};
-ghost use Prim.Native.Nat.{_+_, _-_, _^_, _≤_, _<_, min, max};
+ghost use Prim.Native.Nat.{_+_, _-_, _^_, _≤_, _<_};
 ghost use lib.ListN.{length, replicate};
 ghost use lib.Dec.{eqb};
 ghost use Rattle.gap.specs.Sequence.{every, sameBytes};
@@ -22,34 +25,6 @@ ghost use Rattle.gap.specs.Layout.{ungap};
 ghost use Rattle.editor.specs.declared.Mode.the-variants.{Quoted};
 ghost use Rattle.window.specs.Window.{virtualIn, visible};
 ghost use Rattle.window.specs.Calls.{Texts, virtualHeld, Refreshed};
-
-fn larger(a: usize, b: usize) -> usize
-    ensures { λ m. ⌜ m ≡ max a b ⌝ }
-{
-    if a < b {
-        return b;
-    }
-    a
-}
-
-fn smaller(a: usize, b: usize) -> usize
-    ensures { λ m. ⌜ m ≡ min a b ⌝ }
-{
-    if a < b {
-        return a;
-    }
-    b
-}
-
-// What a is above b, or 0.
-fn excess(a: usize, b: usize) -> usize
-    ensures { λ m. ⌜ m ≡ a - b ⌝ }
-{
-    if a < b {
-        return 0;
-    }
-    a - b
-}
 
 // A run of cells is written; answers whether one was another before.
 fn put_run(cells: &mut [u8], run: &[u8]) -> bool

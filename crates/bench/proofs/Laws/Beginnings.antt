@@ -1,9 +1,8 @@
 -- Laws of the program's beginning: the input's length, the header, and the stores that are lent for it.
 use mathlib.Core.Path.{_≡_, refl, sym, ap, subst, _∙_}
 use mathlib.Core.Bool.{Bool, true, false, cond, false≢true}
-use mathlib.Core.List.{List, [], _∷_}
-use Prim.Native.Nat.{ℕ, zero, suc, _+_, _-_, _*_, _≤_, _<_, min, zero-le}
-use native.Mathlib.Nat.{zero-min, min-zero, suc-min-suc}
+use mathlib.Core.List.{List}
+use Prim.Native.Nat.{ℕ, _+_, _-_, _*_, _≤_, _<_, min, zero-le}
 use native.Mathlib.Omega.{arith}
 use lib.Dec.{leb}
 use lib.ListN.{length, take, drop}
@@ -11,12 +10,12 @@ use borrow.Author.Tests.{leb-true, le-leb, lt-leb}
 use borrow.Rule.Slice.PartMut.{midOf}
 use Rattle.gap.specs.Sequence.{part, patch}
 use Rattle.gap.proofs.Laws.Tests.{cond-true, cond-false}
+use Rattle.gap.proofs.Laws.Sequence.{take-least}
 use Rattle.window.specs.Core.{rowsAndColumns}
-use Rattle.window.specs.Calls.{lent}
 use Rattle.window.proofs.Laws.KeyCall.{product-small}
 use Rattle.bench.specs.Words.{Header, Heading, Headed, Broken}
 use Rattle.bench.specs.Script.{headingOf}
-use Rattle.bench.specs.Run.{unlessLarge, beginning, screenSize, read}
+use Rattle.bench.specs.Run.{unlessLarge, beginning, screenSize}
 use Rattle.bench.proofs.Laws.Scripts.{headed-inside}
 
 pub store-large : (h : Header) → 4096 < h .store → Broken 0 ≡ unlessLarge (Headed h)
@@ -32,16 +31,6 @@ input-long input long = sym (cond-false _ _ (lt-leb (length input) 8192 long))
 pub input-read : (input : List ℕ) (h r : Heading) → length input ≤ 8192 → h ≡ headingOf input → r ≡ unlessLarge h → r ≡ beginning input
 unfolding beginning
 input-read input h r short e f = f ∙ (ap unlessLarge e ∙ sym (cond-true _ _ (le-leb (length input) 8192 short)))
-
-take-nil : (n : ℕ) → take {A = ℕ} n [] ≡ []
-take-nil zero = refl
-take-nil (suc n) = refl
-
-take-least : (n room : ℕ) (s : List ℕ) → take (min n room) s ≡ take room (take n s)
-take-least zero room s = rw zero-min (sym (take-nil room))
-take-least (suc n) zero s = rw min-zero
-take-least (suc n) (suc room) [] = rw suc-min-suc
-take-least (suc n) (suc room) (b ∷ s) = rw suc-min-suc (ap (λ rest. b ∷ rest) (take-least n room s))
 
 -- What a header that was read tells: the text stands within the input, and the store is not too large.
 unbroken : (t : Bool) (g : Heading) (h : Header) → Headed h ≡ cond t g (Broken 0) → (t ≡ true) × (g ≡ Headed h)

@@ -10,7 +10,7 @@ use Rattle.gap.specs.Decimal.{numberOf}
 use Rattle.gap.proofs.Laws.Sequence.{same-equal}
 use Rattle.gap.proofs.Laws.Runs.{tailOf, tail-lent}
 use Rattle.bench.specs.Words.{Left, Right, Recall, Quote, Find, Replace, Number, Naming, Named}
-use Rattle.bench.specs.Names.{insertNumbered, keyNamed}
+use Rattle.bench.specs.Names.{mostDigits, insertNumbered, keyNamed}
 
 pub record FiveWords : Type 0 where
   pub recall : Named Recall ≡ keyNamed (bytes "recall")
@@ -30,6 +30,6 @@ module _ {yes : Bool} {key : Naming} (name : List ℕ) where
 
   -- Behind `insert-` stands the number.
   pub named-insert : {number : Number} → yes ≡ begins (bytes "insert-") name → yes ≡ true
-      → number ≡ numberOf (tailOf 7 name) → key ≡ insertNumbered number → key ≡ keyNamed name
+      → number ≡ numberOf mostDigits (tailOf 7 name) → key ≡ insertNumbered number → key ≡ keyNamed name
   unfolding keyNamed
-  named-insert compared e read made = rw (sym compared ∙ e) (made ∙ ap insertNumbered (read ∙ ap numberOf (tail-lent 7 name)))
+  named-insert compared e read made = rw (sym compared ∙ e) (made ∙ ap insertNumbered (read ∙ ap (numberOf mostDigits) (tail-lent 7 name)))

@@ -1,23 +1,17 @@
 -- Laws of the key table: how its rows are made, and how the name of a row is read.
-use mathlib.Core.Path.{_≡_, refl, ap, _∙_}
-use mathlib.Core.List.{List, [], _∷_, _++_, map}
-use Prim.Native.Nat.{ℕ, zero, suc, _≤_, _<_}
-use native.Mathlib.Nat.{le-of-suc-le-suc, not-suc-le-zero}
+use mathlib.Core.Path.{_≡_, ap, _∙_}
+use mathlib.Core.List.{List, _++_, map}
+use Prim.Native.Nat.{ℕ, _≤_, _<_}
 use native.Mathlib.Omega.{arith}
 use lib.ListN.{length, take, getD, length-append}
 use lib.Seq.{take-append-seam}
+use Rattle.gap.proofs.Laws.Sequence.{at-map}
 use Rattle.bench.specs.Words.{Entry}
 use Rattle.bench.specs.Names.{Combination, nameOf, combinations, combinationAt, entryOf}
 
--- A rule that makes a whole list makes each row of it.
-made-by : {A B : Type 0} (rule : A → B) (s : List A) (i : ℕ) (a : A) (b : B) → i < length s → getD (map rule s) i b ≡ rule (getD s i a)
-made-by rule [] i a b h = absurd (not-suc-le-zero h)
-made-by rule (x ∷ s) zero a b h = refl
-made-by rule (x ∷ s) (suc i) a b h = made-by rule s i a b (le-of-suc-le-suc h)
-
 pub row-made : (i : ℕ) (none : Entry) → i < 20 → getD (map entryOf combinations) i none ≡ entryOf (combinationAt i)
 unfolding combinations
-row-made i none h = made-by entryOf combinations i _ none h
+row-made i none h = at-map entryOf combinations i _ none h
 
 front-fits : (s t : List ℕ) → length s ≤ length (s ++ t)
 front-fits s t = rw length-append (omega arith)

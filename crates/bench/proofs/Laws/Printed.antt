@@ -11,14 +11,15 @@ use borrow.Rule.Slice.PartMut.{midOf}
 use Rattle.gap.specs.Sequence.{part}
 use Rattle.gap.specs.Strings.{bytes}
 use Rattle.gap.specs.Lines.{newline}
+use Rattle.gap.specs.Numbers.{bit}
+use Rattle.gap.specs.Fields.{entry}
 use Rattle.gap.specs.Written.{Wrote}
 use Rattle.gap.proofs.Laws.Sequence.{length-part}
 use Rattle.gap.proofs.Laws.Runs.{part-lent}
 use Rattle.gap.proofs.Laws.Writers.{wrote-none, then, wrote-length}
 use Rattle.window.proofs.Laws.Paint.{row-fits}
 use Rattle.window.specs.Core.{Answer}
-use Rattle.window.specs.Host.{bit}
-use Rattle.bench.specs.Print.{entry, rowsOf, acceptedBlock, Printable}
+use Rattle.bench.specs.Print.{rowsOf, acceptedBlock, Printable}
 
 -- A word, cells and a newline, one behind the other, are a row.
 pub row-wrote : {at cells-at end next : ℕ} {cells old s t new : List ℕ} → Wrote at (bytes "line=") old cells-at s

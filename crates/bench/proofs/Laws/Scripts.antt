@@ -1,54 +1,26 @@
--- Laws of what the lines of a script say: words, numbers and keys, and the header as a whole.
+-- Laws of what the lines of a script say: keys, and the header as a whole.
 use mathlib.Core.Path.{_≡_, refl, sym, ap, subst, _∙_}
-use mathlib.Core.Bool.{Bool, true, false, not, _&&_, cond}
+use mathlib.Core.Bool.{Bool, true, false, _&&_, cond}
 use mathlib.Core.List.{List}
 use Prim.Native.Nat.{ℕ, _+_, _-_, _≤_, _<_}
 use native.Mathlib.Omega.{arith}
 use lib.Dec.{eqb, ltb}
-use lib.ListN.{length, drop, getD, length-append}
-use borrow.Author.Tests.{ltb-true, lt-ltb, le-ltb, not-true, not-false}
+use lib.ListN.{length, getD}
+use borrow.Author.Tests.{ltb-true, lt-ltb, le-ltb}
 use borrow.Rule.Slice.PartMut.{midOf}
-use Rattle.gap.specs.Sequence.{begins}
 use Rattle.gap.specs.Strings.{bytes}
 use Rattle.gap.specs.Lines.{newline}
+use Rattle.gap.specs.Fields.{lineAt, endAt, nextAt, headerAt}
 use Rattle.gap.proofs.Laws.Tests.{and-left, cond-true, cond-false}
-use Rattle.gap.proofs.Laws.Sequence.{begins-split}
-use Rattle.gap.proofs.Laws.Runs.{tailOf, tail-lent}
+use Rattle.gap.proofs.Laws.LinePlaces.{line-lent, next-inside, next-after}
 use Rattle.bench.specs.Words.{Key, Number, Read, Unreadable, Header, Heading, Headed, Broken}
 use Rattle.bench.specs.Words.{Naming, Named, Unnamed, Pressed, Finished, Unknown}
-use Rattle.bench.specs.Script.{lineAt, endAt, nextAt, fieldOf, headerAt, whenRead, textThere, headingOf, keyOf, readAs, readingAt}
-use Rattle.bench.proofs.Laws.ScriptLines.{line-lent, next-inside, next-after}
+use Rattle.bench.specs.Names.{mostDigits}
+use Rattle.bench.specs.Script.{whenRead, textThere, headingOf, keyOf, readAs, readingAt}
 
 -- ---- What a line says
 
--- A line that begins with a word is as long.
-module _ (word line : List ℕ) {yes : Bool} (known : yes ≡ begins word line) where
-  pub word-fits : not yes ≡ false → length word ≤ length line
-  word-fits there =
-      omega (arith, ap length (begins-split word line (sym known ∙ not-false _ there)), length-append word (drop (length word) line))
-
-  -- What is read behind the word, as code lends it, or that the word is missing.
-  module _ {A : Type 0} (reading : List ℕ → A) (none : A) where
-    pub word-none : not yes ≡ true → none ≡ cond (begins word line) (reading (drop (length word) line)) none
-    word-none missing = sym (cond-false _ _ (sym known ∙ not-true _ missing))
-
-    pub word-read : {result : A} → not yes ≡ false → result ≡ reading (tailOf (length word) line)
-        → result ≡ cond (begins word line) (reading (drop (length word) line)) none
-    word-read there e = e ∙ ap reading (tail-lent (length word) line) ∙ sym (cond-true _ _ (sym known ∙ not-false _ there))
-
 module _ (s : List ℕ) (at : ℕ) {end : ℕ} (ends : end ≡ endAt s at) where
-  -- A header line without a newline, and one that has it.
-  module _ (word : List ℕ) where
-    pub header-cut : length s ≤ end → Unreadable ≡ headerAt word s at
-    unfolding headerAt
-    header-cut none = sym (cond-false _ _ (ap (λ e. ltb e (length s)) (sym ends) ∙ le-ltb _ _ none))
-
-    pub header-read : {n : Number} → end < length s → n ≡ fieldOf word (midOf at (end - at) s) → n ≡ headerAt word s at
-    unfolding headerAt
-    header-read more e =
-        e ∙ ap (fieldOf word) (line-lent s at ends)
-        ∙ sym (cond-true _ _ (ap (λ e. ltb e (length s)) (sym ends) ∙ lt-ltb _ _ more))
-
   -- A key line: its key decides.
   module _ {name : Naming} (more : at < length s) (known : name ≡ keyOf (midOf at (end - at) s)) where
     key-decides : {found : Naming} → name ≡ found → readAs found (nextAt s at) ≡ readingAt s at
@@ -89,25 +61,25 @@ afterText s rows columns store at n =
     cond (textThere s at n) (Headed (record { rows = rows; columns = columns; store = store; length = n; at = at })) (Broken 4)
 
 abbrev pub afterStore : List ℕ → ℕ → ℕ → ℕ → ℕ → Heading
-afterStore s rows columns at store = whenRead 4 (headerAt (bytes "text=") s at) (afterText s rows columns store (nextAt s at))
+afterStore s rows columns at store = whenRead 4 (headerAt (bytes "text=") mostDigits s at) (afterText s rows columns store (nextAt s at))
 
 abbrev pub afterColumns : List ℕ → ℕ → ℕ → ℕ → Heading
-afterColumns s rows at columns = whenRead 3 (headerAt (bytes "store=") s at) (afterStore s rows columns (nextAt s at))
+afterColumns s rows at columns = whenRead 3 (headerAt (bytes "store=") mostDigits s at) (afterStore s rows columns (nextAt s at))
 
 abbrev afterRows : List ℕ → ℕ → ℕ → Heading
-afterRows s at rows = whenRead 2 (headerAt (bytes "cols=") s at) (afterColumns s rows (nextAt s at))
+afterRows s at rows = whenRead 2 (headerAt (bytes "cols=") mostDigits s at) (afterColumns s rows (nextAt s at))
 
 -- The lines before place `at` are read; the line there decides, by its word, its number and what `then` says behind it.
 pub record Behind (s : List ℕ) (line : ℕ) (word : List ℕ) (at : ℕ) (then : ℕ → ℕ → Heading) : Type 0 where
   pub fits : at ≤ length s
-  pub rest : headingOf s ≡ whenRead line (headerAt word s at) (then (nextAt s at))
+  pub rest : headingOf s ≡ whenRead line (headerAt word mostDigits s at) (then (nextAt s at))
 
 pub behind-none : (s : List ℕ) → Behind s 1 (bytes "rows=") 0 (afterRows s)
 unfolding headingOf
 behind-none s = record { fits = omega arith; rest = refl }
 
 module _ {s word : List ℕ} {line at : ℕ} {then : ℕ → ℕ → Heading} {number : Number} (so-far : Behind s line word at then)
-    (known : number ≡ headerAt word s at) where
+    (known : number ≡ headerAt word mostDigits s at) where
   pub behind-broken : number ≡ Unreadable → Broken line ≡ headingOf s
   behind-broken none = sym (so-far .rest ∙ ap (λ n. whenRead line n (then (nextAt s at))) (sym known ∙ none))
 
@@ -118,7 +90,7 @@ module _ {s word : List ℕ} {line at : ℕ} {then : ℕ → ℕ → Heading} {n
 
     -- Where another line decides.
     pub behind-more : {nextLine : ℕ} {nextWord : List ℕ} {later : ℕ → ℕ → Heading}
-        → then next n ≡ whenRead nextLine (headerAt nextWord s next) (later (nextAt s next))
+        → then next n ≡ whenRead nextLine (headerAt nextWord mostDigits s next) (later (nextAt s next))
         → Behind s nextLine nextWord next later
     behind-more e = record { fits = next-inside s at onward (so-far .fits); rest = behind-read ∙ e }
 
@@ -158,14 +130,14 @@ module _ (s : List ℕ) where
   inside-text rows columns store at n = inside-if (textThere s at n) _ (text-inside s at n)
 
   inside-store : (rows columns at store : ℕ) → Inside (afterStore s rows columns at store)
-  inside-store rows columns at store = inside-when 4 (headerAt (bytes "text=") s at) _ (inside-text rows columns store (nextAt s at))
+  inside-store rows columns at store = inside-when 4 (headerAt (bytes "text=") mostDigits s at) _ (inside-text rows columns store (nextAt s at))
 
   inside-columns : (rows at columns : ℕ) → Inside (afterColumns s rows at columns)
-  inside-columns rows at columns = inside-when 3 (headerAt (bytes "store=") s at) _ (inside-store rows columns (nextAt s at))
+  inside-columns rows at columns = inside-when 3 (headerAt (bytes "store=") mostDigits s at) _ (inside-store rows columns (nextAt s at))
 
   inside-rows : (at rows : ℕ) → Inside (afterRows s at rows)
-  inside-rows at rows = inside-when 2 (headerAt (bytes "cols=") s at) _ (inside-columns rows (nextAt s at))
+  inside-rows at rows = inside-when 2 (headerAt (bytes "cols=") mostDigits s at) _ (inside-columns rows (nextAt s at))
 
   pub headed-inside : {h : Header} → headingOf s ≡ Headed h → h .at + h .length < length s
   unfolding headingOf
-  headed-inside {h} e = inside-when 1 (headerAt (bytes "rows=") s 0) _ (inside-rows (nextAt s 0)) h e
+  headed-inside {h} e = inside-when 1 (headerAt (bytes "rows=") mostDigits s 0) _ (inside-rows (nextAt s 0)) h e

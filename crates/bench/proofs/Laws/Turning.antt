@@ -7,6 +7,7 @@ use native.Mathlib.Numerals.{add-one}
 use native.Mathlib.Omega.{arith}
 use lib.Dec.{eqb}
 use lib.ListN.{length}
+use Rattle.gap.specs.Fields.{lineNumber}
 use Rattle.gap.specs.Written.{Wrote}
 use Rattle.gap.proofs.Laws.Writers.{wrote-none, wrote-length}
 use Rattle.editor.specs.declared.Key.{Key}
@@ -16,7 +17,7 @@ use Rattle.window.specs.Core.{Lent, opened, keyed}
 use Rattle.window.specs.Calls.{lent, called}
 use Rattle.bench.specs.Words.{Header, Pressed, Finished, Unknown}
 use Rattle.bench.specs.declared.Turn.{Turn}
-use Rattle.bench.specs.Script.{lineNumber, readingAt}
+use Rattle.bench.specs.Script.{readingAt}
 use Rattle.bench.specs.Print.{answerOf, block, scriptLine}
 use Rattle.bench.specs.Run.{laidOut, Turned, openingTurn, pressedTurn, read, nextTurn}
 use Rattle.bench.proofs.Laws.Scripts.{pressed-goes-on}

@@ -8,6 +8,7 @@ use Rattle.gap.specs.Nearest.{nearest, distance}
 use Rattle.gap.specs.Lines.{newlines, sinceAfter, lines}
 use Rattle.gap.specs.Layout.{gapped, paired, ungap, unpair, soundGap, soundPair}
 use Rattle.gap.specs.Decimal.{valueAfter, isNumber, numberOf, digitsIn, decimal}
+use Rattle.gap.specs.Fields.{lineOf, lineAt, endAt, nextAt, lineNumber, fieldOf, headerAt, entry}
 use Rattle.editor.specs.Places.{lineBeginning, lineEnding, word, documentEnd, isAt}
 use Rattle.editor.specs.Keys.{soundKey, inserted, carried, function, recalled, onSide, quoted, withPattern, searched, found, withReplacement, exchanged, substituted, replaced, pressed, fits, bounded, key}
 use Rattle.editor.specs.Bytes.{quarter, sized, plainOf, lengthsOf, storesOf, editorOk}
@@ -15,8 +16,8 @@ use Rattle.window.specs.Window.{virtualIn, rowCells, joined, window, visible, p
 use Rattle.window.specs.Rows.{firstRow, lastRow}
 use Rattle.window.specs.Core.{tabled, isSession, openedText, opened, shown, finished, keyed}
 use Rattle.bench.specs.Names.{combinations, functionNamed, keyNamed}
-use Rattle.bench.specs.Script.{lineOf, lineAt, endAt, nextAt, lineNumber, fieldOf, headerAt, textThere, headingOf, keyOf, readingAt}
-use Rattle.bench.specs.Print.{entry, rowsOf, acceptedBlock, refusedBlock, block, scriptLine}
+use Rattle.bench.specs.Script.{textThere, headingOf, keyOf, readingAt}
+use Rattle.bench.specs.Print.{rowsOf, acceptedBlock, refusedBlock, block, scriptLine}
 use Rattle.bench.specs.Run.{beginning, openingTurn, pressedTurn, nextTurn, turns, fresh, output}
 use Rattle.bench.specs.Samples.{samples, printed}
 

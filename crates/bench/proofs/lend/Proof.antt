@@ -2,6 +2,7 @@
 use mathlib.Core.Path.{refl, sym, _∙_}
 use lib.Seq.{length-take-le}
 use borrow.Author.Needs.{needs}
+use Rattle.editor.specs.Bytes.{quarter}
 use Rattle.bench.proofs.lend.Statement.{statement}
 use Rattle.bench.proofs.lend.Tie as tie
 
@@ -33,6 +34,7 @@ slice-aggregate-play-5 : tie.Need-slice-aggregate-play-5
 slice-aggregate-play-5 c = search needs
 
 play-requires : tie.Need-play-requires
+unfolding quarter
 play-requires c κs =
     let after-screen-size : tie.After-screen-size = search in let start : tie.Start = search in
     let area = after-screen-size .screen-size .ensures in

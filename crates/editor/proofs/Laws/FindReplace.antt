@@ -1,7 +1,7 @@
 -- The search and the substitution on record and stores: what the code does on the document's side is what the plain editor says.
 use mathlib.Core.Path.{_≡_, sym, ap, _∙_}
 use mathlib.Core.Bool.{true, false}
-use mathlib.Core.List.{List, _++_, append-nil}
+use mathlib.Core.List.{List, _++_}
 use Prim.Native.Nat.{ℕ, _+_, _-_, _*_, _≤_}
 use native.Mathlib.Nat.{zero-add}
 use native.Mathlib.Omega.{arith}
@@ -13,7 +13,8 @@ use Rattle.gap.specs.Doc.{Doc, empty, splice}
 use Rattle.gap.specs.Nearest.{distance}
 use Rattle.gap.specs.Layout.{gapped, paired, ungap, unpair, IsGap}
 use Rattle.gap.proofs.Laws.Tests.{and-left, cond-true, cond-false}
-use Rattle.gap.proofs.Laws.Doc.{insertions}
+use Rattle.gap.proofs.Laws.Compared.{begins-fits}
+use Rattle.gap.proofs.Laws.Doc.{splice-twice}
 use Rattle.gap.proofs.Laws.Layout.{length-gapped, ungap-gapped}
 use Rattle.gap.proofs.Laws.Moves.{gap-is}
 use Rattle.editor.specs.Words.{Direction, Left, Search, Move, Main, Sizes, Lengths}
@@ -24,17 +25,11 @@ use Rattle.editor.specs.Keys.{carried, withSide, matches, searched, exch
 use Rattle.editor.specs.Bytes.{Stores, sizesOf, plainOf, editedTo}
 use Rattle.editor.specs.Promise.{Sound, stores, turned, written, Turns, replied, replyOf}
 use Rattle.editor.proofs.Laws.Sound.{SoundPlain}
-use Rattle.editor.proofs.Laws.Sides.{begins-fits}
 use Rattle.editor.proofs.Laws.States.{sound-fits, searched-sound}
 use Rattle.editor.proofs.Laws.Turns.{doneTurn, landed, not-moved}
 use Rattle.editor.proofs.Laws.Replies.{on-side, landed as all-landed}
 use Rattle.editor.proofs.Laws.Fitting.{Sized, sizes, fitting}
 use Rattle.editor.proofs.Theorems.Layouts.{session-encoded}
-
--- The first k bytes behind the cursor are dropped, then a pair goes in: that is one change.
-splice-twice : (k : ℕ) (x d : Doc) → splice 0 0 x (splice 0 k empty d) ≡ splice 0 k x d
-unfolding splice
-splice-twice k x d = insertions x (splice 0 k empty d) ∙ rw append-nil
 
 -- A store in which the first k bytes right of the cursor were dropped.
 module _ (T k l r : ℕ) (d : Doc) (left : length (d .l) ≡ l) (right : length (d .r) ≡ r) (fits : l + r ≤ T)

@@ -1,13 +1,9 @@
 -- What a session tells of its record's lengths: they are the lengths of the texts held, and they keep to the stores.
 use mathlib.Core.Path.{_≡_}
-use mathlib.Core.Bool.{true}
-use mathlib.Core.List.{List}
 use Prim.Native.Nat.{ℕ, _+_, _*_, _≤_}
 use native.Mathlib.Omega.{arith}
-use borrow.Author.Tests.{leb-true}
 use lib.ListN.{length}
-use Rattle.gap.specs.Layout.{soundPair}
-use Rattle.gap.proofs.Laws.Tests.{and-left}
+use Rattle.gap.proofs.Laws.Layout.{is-pair}
 use Rattle.editor.specs.Words.{Main, Quoted, Lengths}
 use Rattle.editor.specs.Plain.{Plain}
 use Rattle.editor.specs.Bytes.{Stores, quarterOf, lengthsOf, plainOf}
@@ -37,10 +33,6 @@ pub record Fitting (Q : ℕ) (n : Lengths) (b : Stores) : Type 0 where
   pub pattern : n .pl ≤ Q
   pub replacement : n .xl + n .xr ≤ Q
 
-pair-fits : (size l r : ℕ) (s : List ℕ) → length s ≡ size → soundPair l r s ≡ true → l + r ≤ size
-unfolding soundPair
-pair-fits size l r s e ok = rw (← e) (leb-true _ _ (and-left _ _ ok))
-
 module _ (Q : ℕ) (n : Lengths) (b : Stores) (sound : Sound Q n b) where
   pub sizes : Sized n (plainOf Q n b)
   unfolding lengthsOf
@@ -67,6 +59,6 @@ module _ (Q : ℕ) (n : Lengths) (b : Stores) (sound : Sound Q n b) where
         side = known .side;
         document = on-side Q n b sound Main .gap .fits;
         quotation = rw (long 0 (omega arith)) at (on-side Q n b sound Quoted .gap .fits);
-        pattern = omega (arith, pair-fits Q (n .pl) 0 (quarterOf Q 2 (b .side)) (long 2 (omega arith)) (tests .pattern));
-        replacement = pair-fits Q (n .xl) (n .xr) (quarterOf Q 3 (b .side)) (long 3 (omega arith)) (tests .replacement);
+        pattern = omega (arith, long 2 (omega arith), is-pair (n .pl) 0 (quarterOf Q 2 (b .side)) (tests .pattern) .fits);
+        replacement = omega (arith, long 3 (omega arith), is-pair (n .xl) (n .xr) (quarterOf Q 3 (b .side)) (tests .replacement) .fits);
       }

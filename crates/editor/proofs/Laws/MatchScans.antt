@@ -12,17 +12,19 @@ use Rattle.gap.specs.declared.Search.the-variants.{Nowhere}
 use Rattle.gap.specs.declared.Direction.{Direction}
 use Rattle.gap.specs.declared.Direction.the-variants.{Left, Right}
 use Rattle.gap.specs.Sequence.{every, begins, counted}
-use Rattle.gap.specs.Doc.{Doc, content, move, times}
+use Rattle.gap.specs.Doc.{Doc, content}
 use Rattle.gap.specs.Layout.{ungap}
 use Rattle.gap.specs.Nearest.{nearest, distance}
-use Rattle.gap.proofs.Laws.Doc.{moves-left, moves-right}
+use Rattle.gap.proofs.Laws.Doc.{behind-left, moves-right}
 use Rattle.gap.proofs.Laws.Runs.{tailOf, tail-lent}
-use Rattle.gap.proofs.Laws.Nearest.{none-nowhere}
+use Rattle.gap.proofs.Laws.Layout.{length-left}
+use Rattle.gap.proofs.Laws.Nearest.{none-nowhere, nearest-same}
 use Rattle.gap.proofs.Laws.Scans.{scan-start, scan-none}
+use Rattle.gap.proofs.Laws.RowScans.{numbers-at, one-row, row-none, row-last}
+use Rattle.gap.proofs.Laws.Compared.{begins-short, begins-front}
 use Rattle.editor.specs.Keys.{matches}
 use Rattle.editor.specs.Searches.{lowest, matchAway, matchLeft, Reach, likelyAt}
-use Rattle.editor.proofs.Laws.RowScans.{numbers-at, nearest-same, one-row, row-none, row-last}
-use Rattle.editor.proofs.Laws.MatchTests.{begins-short, begins-front, length-left, unlikely}
+use Rattle.editor.proofs.Laws.MatchTests.{unlikely}
 
 -- What lies within the text from one distance to another does so between them.
 pub reach-part : {way : Direction} {pattern text : List ℕ} {from to a b : ℕ} → Reach way pattern text from to
@@ -97,9 +99,6 @@ module _ (pattern text : List ℕ) where
   right-short short = right-rest 0 (omega arith) (omega arith) (scan-none _ 0 1 1 (scan-start _ 0 1) (omega arith))
 
 -- To the left it is one of the whole text, with the cursor at place l.
-behind-left : (n : ℕ) (d : Doc) → times (move Left) n d .r ≡ drop (length (d .l) - n) (content d)
-behind-left n d = ap (λ e. e .r) (moves-left n d) ∙ sym (drop-append-le (length (d .l) - n) (d .l) (d .r) (omega arith))
-
 module _ (pattern : List ℕ) (l r : ℕ) (s : List ℕ) (fits : l + r ≤ length s) where
   pub distance-left : nearest (matchLeft pattern l (content (ungap l r s))) l 1 ≡ distance Left (matches pattern) (ungap l r s)
   unfolding distance

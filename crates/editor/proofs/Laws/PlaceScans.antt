@@ -17,12 +17,11 @@ use Rattle.gap.specs.Nearest.{nearest, distance}
 use Rattle.gap.specs.Layout.{ungap}
 use Rattle.gap.proofs.Laws.Tests.{decided, or-right, cond-true, cond-false}
 use Rattle.gap.proofs.Laws.Doc.{back-append, moves-left, moves-right, room-moves}
-use Rattle.gap.proofs.Theorems.Distance.{distance-least, distance-nowhere}
+use Rattle.gap.proofs.Laws.Nearest.{least-reached, none-nowhere, nearest-same}
 use Rattle.editor.specs.Words.{Direction, Left, Right, Search}
 use Rattle.editor.specs.Words.{Place, Character, Word, LineBeginning, LineEnding, Document}
 use Rattle.editor.specs.Places.{isNewline, blank, emptyOr, isEmpty, lineBeginning, lineEnding, word, documentEnd, isAt}
 use Rattle.editor.specs.Promise.{wholeOf}
-use Rattle.editor.proofs.Laws.RowScans.{nearest-same}
 
 -- The cursor at place p of a text.
 abbrev pub cutAt : ℕ → List ℕ → Doc
@@ -173,19 +172,20 @@ module _ (way : Direction) (d : Doc) where
   end-moves n = end-room way (times (move way) n d) ∙ ap (λ k. ltb k 1) (room-moves way n d)
 
   pub distance-end : wholeOf (room way d) ≡ distance way (isAt Document way) d
+  unfolding distance
   distance-end =
       ⊎-elim
       (λ some.
       cond-true _ _ some
-      ∙ sym (distance-least way (isAt Document way) d (room way d) .1 (record {
-        above = leb-true 1 (room way d) some;
+      ∙ sym (least-reached _ (room way d) 1 (room way d) (record {
+        from = leb-true 1 (room way d) some;
         within = omega arith;
-        reaches = end-moves (room way d) ∙ lt-ltb (room way d - room way d) 1 (omega arith);
-        smaller = λ m low high. end-moves m ∙ le-ltb (room way d - m) 1 (omega arith);
+        passes = end-moves (room way d) ∙ lt-ltb (room way d - room way d) 1 (omega arith);
+        before = λ m low high. end-moves m ∙ le-ltb (room way d - m) 1 (omega arith);
       })))
       (λ short.
       cond-false _ _ short
-      ∙ sym (distance-nowhere way (isAt Document way) d .1 (λ n low high. absurd (omega (arith, leb-false 1 (room way d) short)))))
+      ∙ sym (none-nowhere _ (room way d) 1 (λ n low high. absurd (omega (arith, leb-false 1 (room way d) short)))))
       (decided (leb 1 (room way d)))
 
 -- In a gap store: the parts that the code lends are the texts.

@@ -4,13 +4,13 @@ use mathlib.Core.List.{List, [], _++_, append-assoc, append-nil}
 use Prim.Native.Nat.{ℕ, _+_, _*_}
 use native.Mathlib.Nat.{zero-mul, one-mul, sub-zero}
 use native.Mathlib.Omega.{arith}
-use lib.ListN.{length, take, drop, length-append, take-append-drop, replicate-append-replicate}
+use lib.ListN.{length, take, drop, length-append, take-append-drop}
 use lib.Seq.{length-take-le, take-all, take-at, drop-at, drop-drop}
 use Rattle.gap.specs.Sequence.{part, patch, zeros}
 use Rattle.gap.specs.Doc.{empty}
 use Rattle.gap.specs.Layout.{gapped, paired}
 use Rattle.gap.proofs.Laws.Sequence.{length-zeros}
-use Rattle.gap.proofs.Laws.Runs.{part-middle, patch-middle}
+use Rattle.gap.proofs.Laws.Runs.{zeros-both, part-middle, patch-middle}
 use Rattle.editor.specs.Words.{Sizes}
 use Rattle.editor.specs.declared.Turn.{Turn}
 use Rattle.editor.specs.Plain.{Side, Did}
@@ -30,10 +30,7 @@ unfolding part
 two-quarters Q s = rw (second-quarter, zero-mul, take-append-drop)
 
 zeros-twice : (k : ℕ) → zeros (2 * k) ≡ zeros k ++ zeros k
-unfolding zeros
-zeros-twice k =
-    let double : 2 * k ≡ k + k = omega arith in
-    rw double (sym (replicate-append-replicate {A = ℕ} k k 0))
+zeros-twice k = let double : 2 * k ≡ k + k = omega arith in rw double (sym (zeros-both k k))
 
 -- Free, they hold an empty quotation with an empty recall text.
 pub no-quotation : (Q : ℕ) (rest : List ℕ) → zeros (2 * Q) ++ rest ≡ gapped Q empty ++ (paired Q empty ++ rest)

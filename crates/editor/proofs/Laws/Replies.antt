@@ -10,9 +10,10 @@ use lib.Seq.{drop-at}
 use borrow.Author.Tests.{le-leb}
 use Rattle.gap.specs.Sequence.{patch, zeros}
 use Rattle.gap.specs.Doc.{empty, content}
-use Rattle.gap.specs.Layout.{gapped, paired, soundGap, soundPair, IsGap, IsPair}
+use Rattle.gap.specs.Layout.{gapped, paired}
 use Rattle.gap.proofs.Laws.Tests.{cond-true, cond-false}
-use Rattle.gap.proofs.Laws.Layout.{sound-gap, sound-pair, length-gapped, length-paired}
+use Rattle.gap.proofs.Laws.Layout.{is-gap, is-pair, length-gapped, length-paired}
+use Rattle.gap.proofs.Laws.Holdable.{content-fits}
 use Rattle.editor.specs.Words.{Mode, Main, Quoted, Sizes, Lengths}
 use Rattle.editor.specs.declared.Turn.{Turn}
 use Rattle.editor.specs.declared.Reply.{Reply}
@@ -25,7 +26,6 @@ use Rattle.editor.proofs.Laws.Sound.{SoundPlain}
 use Rattle.editor.proofs.Laws.Quarters.{length-quarter}
 use Rattle.editor.proofs.Laws.Quotation.{two-quarters, quotation-cleared}
 use Rattle.editor.proofs.Laws.Session.{measured, passed}
-use Rattle.editor.proofs.Laws.Sides.{content-fits}
 use Rattle.editor.proofs.Laws.States.{limit, sound-fits, quoted-sound}
 use Rattle.editor.proofs.Theorems.Layouts.{Encoded, session-encoded}
 
@@ -88,18 +88,6 @@ sized-with : (m : Mode) (s : Side) (p : Plain) → sizedIn m (sizesOf s) (length
 unfolding lengthsOf
 sized-with Main s p = refl
 sized-with Quoted s p = refl
-
--- Sound stores, as the routines on them ask for.
-module _ (l r : ℕ) (s : List ℕ) where
-  is-gap : soundGap l r s ≡ true → IsGap l r s
-  is-gap e =
-      let (encodes, holds) = sound-gap l r s e in
-      record { fits = omega (arith, encodes .left, encodes .right, encodes .held .fits); holds = holds }
-
-  is-pair : soundPair l r s ≡ true → IsPair l r s
-  is-pair e =
-      let (encodes, holds) = sound-pair l r s e in
-      record { fits = omega (arith, encodes .left, encodes .right, encodes .held .fits); holds = holds }
 
 module _ (Q : ℕ) (n : Lengths) (b : Stores) (sound : Sound Q n b) where
   abbrev T : ℕ

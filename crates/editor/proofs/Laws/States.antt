@@ -13,6 +13,8 @@ use Rattle.gap.specs.Layout.{allowed}
 use Rattle.gap.proofs.Laws.Tests.{and-left, and-right, and-both}
 use Rattle.gap.proofs.Laws.Sequence.{every-left}
 use Rattle.gap.proofs.Laws.Layout.{Holdable}
+use Rattle.gap.proofs.Laws.Compared.{begins-fits}
+use Rattle.gap.proofs.Laws.Holdable.{empty-holdable, content-fits, splice-holdable, left-holdable, right-holdable}
 use Rattle.editor.specs.Words.{Direction, Action, Move, Place, Mode, Main, Quoted}
 use Rattle.editor.specs.Places.{isAt}
 use Rattle.editor.specs.Plain.{Side, emptySide, Plain, Did, quiet, rang}
@@ -20,8 +22,7 @@ use Rattle.editor.specs.Bytes.{alone, sizesOf, unquoted}
 use Rattle.editor.specs.Keys.{function, sideOf, withSide, onSide, otherMode, quoted, withPattern, matches, searched, found}
 use Rattle.editor.specs.Keys.{withReplacement, exchanged, substituted, fits}
 use Rattle.editor.proofs.Laws.Sound.{SoundPlain}
-use Rattle.editor.proofs.Laws.Sides.{SoundSide, empty-holdable, content-fits, splice-holdable, left-holdable, right-holdable}
-use Rattle.editor.proofs.Laws.Sides.{begins-fits, carried-sound}
+use Rattle.editor.proofs.Laws.Sides.{SoundSide, carried-sound}
 
 -- How long the text of the mode's side may be.
 abbrev pub limit : ℕ → ℕ → Mode → ℕ

@@ -15,8 +15,8 @@ use Rattle.gap.specs.Layout.{gapped, paired, ungap, unpair}
 use Rattle.gap.proofs.Laws.Tests.{cond-true, cond-false}
 use Rattle.gap.proofs.Laws.Sequence.{length-part}
 use Rattle.gap.proofs.Laws.Doc.{deletions-left, deletions-right, insertions, length-moves, room-moves, room-behind}
-use Rattle.gap.proofs.Laws.Stores.{length-left, length-right}
-use Rattle.gap.proofs.Theorems.Distance.{distance-least}
+use Rattle.gap.proofs.Laws.Layout.{length-left, length-right}
+use Rattle.gap.proofs.Laws.Nearest.{reached-least}
 use Rattle.editor.specs.Words.{Direction, Left, Right, Search, Reached, Nowhere, Action, Move, Delete, Place, Sizes}
 use Rattle.editor.specs.declared.Turn.{Turn}
 use Rattle.editor.specs.Plain.{Side, Did, quiet}
@@ -95,10 +95,10 @@ module _ {n : Sizes} {text recall : List ℕ} (on : OnSide n text recall) where
   pair = unpair (n .rl) (n .rr) recall
 
   left : length (doc .l) ≡ n .l
-  left = length-left (on .gap)
+  left = length-left _ _ _ (on .gap .fits)
 
   right : length (doc .r) ≡ n .r
-  right = length-right (on .gap)
+  right = length-right _ _ _ (on .gap .fits)
 
   first : length (pair .l) ≡ n .rl
   unfolding unpair
@@ -216,7 +216,8 @@ module _ {n : Sizes} {text recall : List ℕ} (on : OnSide n text recall) where
   -- A distance that was found is within the room.
   pub within-room : (way : Direction) (place : Doc → Bool) {found : Search} {d : ℕ} → found ≡ distance way place doc → found ≡ Reached d
       → d ≤ roomOf way n
-  within-room way place {found} {d} e told = rw (room-held way) (distance-least way place doc d .0 (sym e ∙ told) .within)
+  unfolding distance
+  within-room way place {found} {d} e told = omega (arith, room-held way, reached-least _ _ 1 d (sym e ∙ told) .within)
 
   -- A function key does what it does at the distance that was found.
   pub by-distance : (action : Action) (way : Direction) (place : Place) {t : Turn} {found search : Search} {textThen recallThen : List ℕ}

@@ -1,13 +1,13 @@
 -- RECALL straight after a deletion restores text and cursor (01, recall text). Moves and searches keep the content.
 use mathlib.Core.Path.{_≡_, refl, ap, _∙_}
-use mathlib.Core.List.{_++_, append-nil}
+use mathlib.Core.List.{append-nil}
 use Prim.Native.Nat.{ℕ}
 use native.Mathlib.Nat.{sub-zero}
 use lib.ListN.{take-append-drop}
 use lib.Seq.{take-length}
 use Rattle.gap.specs.Doc.{Doc, empty, content, delete, times, passed, splice, removed}
 use Rattle.gap.specs.Nearest.{distance}
-use Rattle.gap.proofs.Laws.Doc.{same-texts, deletions-left, deletions-right, content-moves}
+use Rattle.gap.proofs.Laws.Doc.{same-texts, deletions-left, deletions-right, insertions, content-moves}
 use Rattle.editor.specs.Words.{Direction, Left, Right, Search, Reached, Nowhere, Move, Delete, Place, Mode, Main, Quoted}
 use Rattle.editor.specs.Words.{Function, Recall, Find}
 use Rattle.editor.specs.Places.{isAt}
@@ -18,22 +18,17 @@ use Rattle.editor.proofs.Laws.Sound.{SoundPlain}
 use Rattle.editor.proofs.Laws.Outcomes.{accepted}
 use Rattle.editor.proofs.Laws.States.{side-with, on-side-twice, sound-fits}
 
--- Putting a pair around the cursor, without the lengths.
-put : (x d : Doc) → splice 0 0 x d ≡ record { l = d .l ++ x .l; r = x .r ++ d .r }
-unfolding splice
-put x d = rw (sub-zero, take-length)
-
 put-nothing : (d : Doc) → splice 0 0 empty d ≡ d
-put-nothing d = put empty d ∙ same-texts (append-nil (d .l)) refl
+put-nothing d = insertions empty d ∙ same-texts (append-nil (d .l)) refl
 
 -- What n deletions removed, put around the cursor again, gives the text back.
 put-back : (way : Direction) (n : ℕ) (d : Doc) → splice 0 0 (removed way n d) (times (delete way) n d) ≡ d
 unfolding removed passed splice
 put-back Left n d =
-    ap (λ e. splice 0 0 (removed Left n d) e) (deletions-left n d) ∙ put (removed Left n d) (splice n 0 empty d)
+    ap (λ e. splice 0 0 (removed Left n d) e) (deletions-left n d) ∙ insertions (removed Left n d) (splice n 0 empty d)
     ∙ same-texts (rw (append-nil, take-append-drop)) refl
 put-back Right n d =
-    ap (λ e. splice 0 0 (removed Right n d) e) (deletions-right n d) ∙ put (removed Right n d) (splice 0 n empty d)
+    ap (λ e. splice 0 0 (removed Right n d) e) (deletions-right n d) ∙ insertions (removed Right n d) (splice 0 n empty d)
     ∙ same-texts (simp (append-nil, sub-zero, take-length)) (take-append-drop n (d .r))
 
 -- RECALL straight after a deletion: the text is as it was, cursor included, and the recall text is what the deletion made it.

@@ -20,7 +20,8 @@ use Rattle.editor.specs.Keys.{soundFunction, soundKey, inserted, recalle
 use Rattle.editor.specs.Keys.{matches, withReplacement, exchanged, substituted, replaced, pressed, fits, key}
 use Rattle.editor.proofs.Laws.Sound.{SoundPlain}
 use Rattle.editor.proofs.Laws.Outcomes.{key-refused, full-refused, accepted, refusal-number}
-use Rattle.editor.proofs.Laws.Sides.{length-splice, begins-fits}
+use Rattle.gap.proofs.Laws.Compared.{begins-fits}
+use Rattle.gap.proofs.Laws.Holdable.{length-splice}
 use Rattle.editor.proofs.Laws.States.{limit, sound-fits, function-sound, quoted-sound, found-sound, with-replacement-sound}
 
 -- 01, KEY: an insert of a byte that is not allowed, a deletion left to a line ending, a deletion right to a line beginning.

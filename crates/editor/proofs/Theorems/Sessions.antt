@@ -12,7 +12,8 @@ use Rattle.editor.specs.Plain.{Plain, opening, Did, Outcome, refused, do
 use Rattle.editor.specs.Keys.{soundKey, inserted, recalled, withReplacement, replaced, pressed, fits, key, after, keys}
 use Rattle.editor.proofs.Laws.Sound.{SoundPlain}
 use Rattle.editor.proofs.Laws.Outcomes.{accepted}
-use Rattle.editor.proofs.Laws.Sides.{empty-holdable, right-holdable, inserted-sound, recalled-sound}
+use Rattle.gap.proofs.Laws.Holdable.{empty-holdable, right-holdable}
+use Rattle.editor.proofs.Laws.Sides.{inserted-sound, recalled-sound}
 use Rattle.editor.proofs.Laws.States.{side-sound, on-side-sound, on-side-fits, function-sound, quoted-sound, found-sound}
 use Rattle.editor.proofs.Laws.States.{with-replacement-sound, substituted-sound}
 

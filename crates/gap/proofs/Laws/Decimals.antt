@@ -13,7 +13,7 @@ use lib.Seq.{drop-cons}
 use borrow.Author.Tests.{ltb-true, ltb-false, leb-true, lt-ltb, le-ltb, le-leb, lt-leb}
 use Rattle.gap.specs.declared.Number.the-variants.{Read, Unreadable}
 use Rattle.gap.specs.Sequence.{every}
-use Rattle.gap.specs.Decimal.{digit, valueAfter, value, isNumber, numberOf, digitsIn, decimal}
+use Rattle.gap.specs.Decimal.{digit, valueAfter, value, wordDigits, isNumber, numberOf, digitsIn, decimal}
 use Rattle.gap.proofs.Laws.Tests.{decided, and-left, and-right, and-both, cond-true, cond-false}
 use Rattle.gap.proofs.Laws.Sequence.{every-both, every-at}
 
@@ -117,20 +117,33 @@ value-below k n (b ∷ s) h p =
     let same : suc k + length s ≡ k + suc (length s) = omega arith in
     rw same at (value-below (suc k) (n * 10 + (b - 48)) s more (and-right (digit b) _ p))
 
--- Five digits write a number below 100,000.
-pub value-small : (s : List ℕ) → length s ≤ 5 → every digit s ≡ true → value s < 100000
-value-small s short p =
-    let power : 10 ^ (0 + length s) ≤ 10 ^ 5 = pow-le-pow-right (omega arith) {j = 5} (omega arith) in
+-- Digits write a number below the power of ten that has a digit more.
+pub value-within : (most : ℕ) (s : List ℕ) → length s ≤ most → every digit s ≡ true → value s < 10 ^ most
+value-within most s short p =
+    let power : 10 ^ (0 + length s) ≤ 10 ^ most = pow-le-pow-right (omega arith) {j = most} (omega arith) in
     omega (arith, value-below 0 0 s (omega arith) p)
 
--- n is the number that the first i of at most five digits write.
+value-append : (n : ℕ) (s t : List ℕ) → valueAfter n (s ++ t) ≡ valueAfter (valueAfter n s) t
+unfolding valueAfter
+value-append n [] t = refl
+value-append n (b ∷ s) t = value-append (n * 10 + (b - 48)) s t
+
+-- The digits of a number are worth it.
+pub value-decimal : (n : ℕ) → value (decimal n) ≡ n
+unfolding valueAfter
+value-decimal =
+    by-tenths (λ n. value (decimal n) ≡ n)
+    (λ n small. rw (decimal-digit n small) (omega arith))
+    (λ n large tenth. rw (decimal-step n large, value-append, tenth) (omega arith))
+
+-- n is the number that the first i digits write, of no more than a machine word has room for.
 pub record Valued (s : List ℕ) (n i : ℕ) : Type 0 where
   pub digits : every digit s ≡ true
-  pub short : length s ≤ 5
+  pub short : length s ≤ wordDigits
   pub within : i ≤ length s
   pub rest : value s ≡ valueAfter n (drop i s)
 
-pub valued-start : {s : List ℕ} → length s ≤ 5 → every digit s ≡ true → Valued s 0 0
+pub valued-start : {s : List ℕ} → length s ≤ wordDigits → every digit s ≡ true → Valued s 0 0
 valued-start short p = record { digits = p; short = short; within = omega arith; rest = refl }
 
 module _ {s : List ℕ} {n i : ℕ} (so-far : Valued s n i) where
@@ -139,7 +152,7 @@ module _ {s : List ℕ} {n i : ℕ} (so-far : Valued s n i) where
   valued-all end = sym (so-far .rest ∙ rw drop-of-length-le)
 
   module _ (more : i < length s) where
-    -- The next byte is a digit, which leads to the next number; and that is small.
+    -- The next byte is a digit, which leads to the next number; and that fits a machine word.
     pub valued-digit : (48 ≤ getD s i 0) × (getD s i 0 ≤ 57)
     valued-digit = digit-range (getD s i 0) (every-at digit s i (so-far .digits) more)
 
@@ -152,49 +165,49 @@ module _ {s : List ℕ} {n i : ℕ} (so-far : Valued s n i) where
       rest = so-far .rest ∙ rw (add-one, drop-cons s i 0);
     }
 
-    pub valued-small : n * 10 + (getD s i 0 - 48) < 100000
-    valued-small =
-        let all : value s < 100000 = value-small s (so-far .short) (so-far .digits) in
+    pub valued-fits : n * 10 + (getD s i 0 - 48) < 10 ^ wordDigits
+    valued-fits =
+        let all : value s < 10 ^ wordDigits = value-within wordDigits s (so-far .short) (so-far .digits) in
         omega (arith, valued-more .rest, value-grows (n * 10 + (getD s i 0 - 48)) (drop (i + 1) s))
 
--- What the test of a number tells of the bytes that pass.
-pub record Numeral (s : List ℕ) : Type 0 where
+-- What the test of a number of at most so many digits tells of the bytes that pass.
+pub record Numeral (most : ℕ) (s : List ℕ) : Type 0 where
   pub some : 1 ≤ length s
-  pub few : length s ≤ 5
+  pub few : length s ≤ most
   pub digits : every digit s ≡ true
   pub front : (eqb (length s) 1 || not (eqb (getD s 0 0) 48)) ≡ true
 
 -- The test as code runs it, the length first; and what is read.
-module _ (s : List ℕ) where
-  pub number-short : length s < 1 → false ≡ isNumber s
+module _ (most : ℕ) (s : List ℕ) where
+  pub number-short : length s < 1 → false ≡ isNumber most s
   unfolding isNumber
   number-short h = rw (lt-leb 1)
 
-  pub number-long : 5 < length s → false ≡ isNumber s
+  pub number-long : most < length s → false ≡ isNumber most s
   unfolding isNumber
-  number-long h = rw (lt-leb (length s) 5, and-false)
+  number-long h = rw (lt-leb (length s) most, and-false)
 
-  pub number-tests : {digits : Bool} → 1 ≤ length s → length s ≤ 5 → digits ≡ every digit s
-      → (digits && (eqb (length s) 1 || not (eqb (getD s 0 0) 48))) ≡ isNumber s
+  pub number-tests : {digits : Bool} → 1 ≤ length s → length s ≤ most → digits ≡ every digit s
+      → (digits && (eqb (length s) 1 || not (eqb (getD s 0 0) 48))) ≡ isNumber most s
   unfolding isNumber
-  number-tests some few e = rw (e, le-leb 1, le-leb (length s) 5)
+  number-tests some few e = rw (e, le-leb 1, le-leb (length s) most)
 
-  pub number-is : isNumber s ≡ true → Numeral s
+  pub number-is : isNumber most s ≡ true → Numeral most s
   unfolding isNumber
   number-is yes-it-is =
-      let sized : Bool = leb 1 (length s) && leb (length s) 5 in
-      let most : (sized && every digit s) ≡ true = and-left (sized && every digit s) _ yes-it-is in
-      let lengths : sized ≡ true = and-left sized _ most in record {
+      let sized : Bool = leb 1 (length s) && leb (length s) most in
+      let bytes : (sized && every digit s) ≡ true = and-left (sized && every digit s) _ yes-it-is in
+      let lengths : sized ≡ true = and-left sized _ bytes in record {
         some = leb-true 1 (length s) (and-left (leb 1 (length s)) _ lengths);
-        few = leb-true (length s) 5 (and-right (leb 1 (length s)) _ lengths);
-        digits = and-right sized _ most;
+        few = leb-true (length s) most (and-right (leb 1 (length s)) _ lengths);
+        digits = and-right sized _ bytes;
         front = and-right (sized && every digit s) _ yes-it-is;
       }
 
-  pub number-read : isNumber s ≡ true → Read (value s) ≡ numberOf s
+  pub number-read : isNumber most s ≡ true → Read (value s) ≡ numberOf most s
   unfolding numberOf
   number-read yes-it-is = sym (cond-true _ _ yes-it-is)
 
-  pub number-unread : isNumber s ≡ false → Unreadable ≡ numberOf s
+  pub number-unread : isNumber most s ≡ false → Unreadable ≡ numberOf most s
   unfolding numberOf
   number-unread no-it-is = sym (cond-false _ _ no-it-is)

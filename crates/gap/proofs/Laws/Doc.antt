@@ -5,7 +5,7 @@ use Prim.Native.Nat.{ℕ, zero, suc, _+_, _-_, _≤_}
 use native.Mathlib.Nat.{sub-zero, zero-add, suc-add}
 use native.Mathlib.Omega.{arith}
 use lib.ListN.{length, take, drop, length-append, length-take, length-drop, take-append-drop}
-use lib.Seq.{take-take, take-length, drop-length, take-nil, drop-nil, take-at, drop-at, length-take-le}
+use lib.Seq.{take-take, take-length, drop-length, take-nil, drop-nil, take-at, drop-at, drop-append-le, length-take-le}
 use Rattle.gap.specs.declared.Direction.{Direction}
 use Rattle.gap.specs.declared.Direction.the-variants.{Left, Right}
 use Rattle.gap.specs.Sequence.{butLast, lastOf}
@@ -80,6 +80,10 @@ unfolding times move
 moves-left zero d = same-texts (front-zero (d .l)) (ap (λ s. s ++ d .r) (back-zero (d .l)))
 moves-left (suc n) d = moves-left n (move Left d) ∙ same-texts (front-suc (d .l) n) (back-suc (d .l) n (d .r))
 
+-- What stands behind the cursor then, in the whole text.
+pub behind-left : (n : ℕ) (d : Doc) → times (move Left) n d .r ≡ drop (length (d .l) - n) (content d)
+behind-left n d = ap (λ e. e .r) (moves-left n d) ∙ sym (drop-append-le (length (d .l) - n) (d .l) (d .r) (omega arith))
+
 pub moves-right : (n : ℕ) (d : Doc) → times (move Right) n d ≡ record { l = d .l ++ take n (d .r); r = drop n (d .r) }
 unfolding times move
 moves-right zero d = same-texts (sym (append-nil (d .l))) refl
@@ -101,6 +105,11 @@ deletions-right (suc n) d = deletions-right n (delete Right d) ∙ same-texts re
 pub insertions : (x d : Doc) → splice 0 0 x d ≡ record { l = d .l ++ x .l; r = x .r ++ d .r }
 unfolding splice
 insertions x d = same-texts (ap (λ s. s ++ x .l) (sym (front-zero (d .l)))) refl
+
+-- The first k bytes behind the cursor are dropped, then a pair goes in: that is one change.
+pub splice-twice : (k : ℕ) (x d : Doc) → splice 0 0 x (splice 0 k empty d) ≡ splice 0 k x d
+unfolding splice
+splice-twice k x d = insertions x (splice 0 k empty d) ∙ rw append-nil
 
 -- Moves keep the content.
 pub content-moves : (way : Direction) (n : ℕ) (d : Doc) → content (times (move way) n d) ≡ content d

@@ -2,17 +2,18 @@
 use mathlib.Core.Path.{_≡_, refl, sym, ap, _∙_}
 use mathlib.Core.Bool.{Bool, true, _&&_}
 use mathlib.Core.List.{List, _++_}
-use Prim.Native.Nat.{ℕ, _+_, _-_, _≤_}
+use Prim.Native.Nat.{ℕ, _+_, _-_, _≤_, _<_}
 use native.Mathlib.Omega.{arith}
 use lib.Dec.{leb}
 use lib.ListN.{length, take, drop, length-append, length-drop, take-append-drop}
-use lib.Seq.{length-take-le, take-append-seam, drop-append-seam, drop-append-add, take-at, drop-drop}
+use lib.Seq.{length-take-le, take-add, take-append-seam, take-at, drop-at, drop-append-le, drop-append-seam, drop-append-add, drop-drop}
 use borrow.Author.Tests.{leb-true, le-leb}
 use Rattle.gap.specs.Sequence.{every, part, zeros}
 use Rattle.gap.specs.Doc.{Doc, content}
-use Rattle.gap.specs.Layout.{allowed, free, spare, gapped, paired, ungap, unpair, soundGap, soundPair}
+use Rattle.gap.specs.Layout.{allowed, free, spare, gapped, paired, ungap, unpair, soundGap, soundPair, IsGap, IsPair}
 use Rattle.gap.proofs.Laws.Tests.{and-left, and-right, and-both}
 use Rattle.gap.proofs.Laws.Sequence.{length-part, length-zeros, zeros-free, free-zeros}
+use Rattle.gap.proofs.Laws.Runs.{tailOf, tail-lent}
 
 -- A store of this size can hold the two texts, and their bytes are allowed.
 pub record Holdable (size : ℕ) (d : Doc) : Type 0 where
@@ -98,7 +99,7 @@ told size l r d rest passed lengths =
     )
 
 -- A store, cut before and behind a part of it.
-cut : (a k : ℕ) (s : List ℕ) → take a s ++ (part a k s ++ drop (a + k) s) ≡ s
+pub cut : (a k : ℕ) (s : List ℕ) → take a s ++ (part a k s ++ drop (a + k) s) ≡ s
 unfolding part
 cut a k s = rw (← drop-drop, take-append-drop, take-append-drop)
 
@@ -118,3 +119,46 @@ module _ (l r : ℕ) (s : List ℕ) where
       let t = told (length s) l r (unpair l r s) (drop (l + r) s) e
       (λ fits. (length-take-le l s (omega arith), length-part l r s fits, length-drop (l + r) s)) in
       (t .0, rw (t .1) (cut l r s))
+
+-- Sound stores, as the routines on them ask for.
+module _ (l r : ℕ) (s : List ℕ) where
+  pub is-gap : soundGap l r s ≡ true → IsGap l r s
+  is-gap e =
+      let (encodes, holds) = sound-gap l r s e in
+      record { fits = omega (arith, encodes .left, encodes .right, encodes .held .fits); holds = holds }
+
+  pub is-pair : soundPair l r s ≡ true → IsPair l r s
+  is-pair e =
+      let (encodes, holds) = sound-pair l r s e in
+      record { fits = omega (arith, encodes .left, encodes .right, encodes .held .fits); holds = holds }
+
+drop-taken : (a k : ℕ) (s : List ℕ) → a + k ≤ length s → drop a (take (a + k) s) ≡ take k (drop a s)
+drop-taken a k s fits = rw take-add (drop-at (take a s) _ a (length-take-le a s (omega arith)))
+
+-- What a gap store of texts of l and r bytes holds: their lengths, and what follows a place of the text, which is a run at the end of
+-- the store or two runs.
+module _ (l r : ℕ) (s : List ℕ) (fits : l + r ≤ length s) where
+  pub length-left : length (ungap l r s .l) ≡ l
+  unfolding ungap
+  length-left = length-take-le l s (omega arith)
+
+  pub length-right : length (ungap l r s .r) ≡ r
+  unfolding ungap
+  length-right = rw length-drop (omega arith)
+
+  module _ (at : ℕ) where
+    pub text-right : l ≤ at → drop (length s - r + (at - l)) s ≡ drop at (content (ungap l r s))
+    unfolding ungap
+    text-right beyond =
+        let there : at ≡ length (take l s) + (at - l) = omega (arith, length-left) in
+        sym
+        (ap (λ n. drop n (take l s ++ drop (length s - r) s)) there
+        ∙ drop-append-add (take l s) _ (at - l)
+        ∙ drop-drop (at - l) (length s - r) s)
+
+    pub text-across : at < l → take (l - at) (drop at s) ++ tailOf (length s - r) s ≡ drop at (content (ungap l r s))
+    unfolding ungap
+    text-across before =
+        let both : l ≡ at + (l - at) = omega arith in
+        let front = ap (λ n. drop at (take n s)) both ∙ drop-taken at (l - at) s (omega arith) in
+        sym (drop-append-le at (take l s) _ (omega (arith, length-left)) ∙ rw (front, tail-lent))

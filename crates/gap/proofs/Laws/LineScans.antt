@@ -12,24 +12,14 @@ use borrow.Author.Tests.{ne-eqb, not-true, not-false}
 use borrow.Rule.Slice.PartAt.{part-to-end}
 use Rattle.gap.specs.Sequence.{every, part}
 use Rattle.gap.specs.Lines.{newline, newlines, sinceAfter, Unbroken}
-use Rattle.gap.proofs.Laws.Tests.{and-left, and-right}
+use Rattle.gap.proofs.Laws.Tests.{and-left, and-right, cond-false}
 use Rattle.gap.proofs.Laws.Sequence.{every-both}
-use Rattle.gap.proofs.Laws.Lines.{newlines-append, since-append}
+use Rattle.gap.proofs.Laws.Lines.{newlines-append, newlines-fit, since-append, since-unbroken}
 
 -- count is the number of newlines among the first i bytes of s.
 pub record Counted (s : List ℕ) (count i : ℕ) : Type 0 where
   pub within : i ≤ length s
   pub rest : newlines s ≡ count + newlines (drop i s)
-
-one-more : (is : Bool) {m n : ℕ} → m ≤ n → cond is (suc m) m ≤ suc n
-one-more true h = omega arith
-one-more false h = omega arith
-
--- There are no more newlines than bytes.
-pub newlines-fit : (s : List ℕ) → newlines s ≤ length s
-unfolding newlines
-newlines-fit [] = omega arith
-newlines-fit (b ∷ s) = one-more (eqb b newline) (newlines-fit s)
 
 as-number : (is : Bool) → boolByte is ≡ cond is 1 0
 as-number true = refl
@@ -63,17 +53,15 @@ module _ (s : List ℕ) where
     unfolding newlines
     counted-all end = sym (so-far .rest ∙ rw drop-of-length-le (omega arith))
 
--- Any byte but a newline is within a line; as long as there are only such, the column goes on.
+-- Any byte but a newline is within a line; where there are only such, there are no newlines.
 abbrev within-line : ℕ → Bool
 within-line b = not (eqb b newline)
 
-since-goes-on : (n : ℕ) (s : List ℕ) → every within-line s ≡ true → sinceAfter n s ≡ n + length s
-unfolding every sinceAfter
-since-goes-on n [] p = omega arith
-since-goes-on n (b ∷ s) p =
-    ap (λ is. sinceAfter (cond is 0 (suc n)) s) (not-true (eqb b newline) (and-left (within-line b) _ p))
-    ∙ since-goes-on (suc n) s (and-right (within-line b) _ p)
-    ∙ omega arith
+no-newlines : (s : List ℕ) → every within-line s ≡ true → newlines s ≡ 0
+unfolding every newlines
+no-newlines [] p = refl
+no-newlines (b ∷ s) p =
+    cond-false _ _ (not-true (eqb b newline) (and-left (within-line b) _ p)) ∙ no-newlines s (and-right (within-line b) _ p)
 
 -- A stretch without a newline is empty, was tested as a block or as a byte, or is two such that meet.
 module _ {s : List ℕ} where
@@ -113,7 +101,7 @@ module _ {s : List ℕ} {i : ℕ} (n : ℕ) (so-far : Unbroken s i (length s)) w
       let behind : every within-line (drop i s) ≡ true = rw part-to-end at (so-far .bytes) in
       ap (sinceAfter n) (sym (take-append-drop i s))
       ∙ since-append n (take i s) (drop i s)
-      ∙ since-goes-on _ (drop i s) behind
+      ∙ since-unbroken _ (drop i s) (no-newlines (drop i s) behind)
       ∙ rw length-drop
 
   pub since-none : i ≤ 0 → n + length s ≡ sinceAfter n s

@@ -6,7 +6,7 @@ use Prim.Native.Nat.{ℕ, zero, suc, _+_, _≤_, _<_}
 use native.Mathlib.Nat.{zero-add}
 use native.Mathlib.Omega.{arith}
 use lib.Dec.{eqb}
-use lib.ListN.{length, take, drop, getD, length-append}
+use lib.ListN.{length, take, drop, getD, length-append, length-take}
 use lib.Seq.{getD-at, length-take-le}
 use Rattle.gap.specs.Sequence.{every}
 use Rattle.gap.specs.Lines.{newline, newlines, sinceAfter, since, longer, lines}
@@ -33,6 +33,40 @@ pub since-append : (n : ℕ) (s t : List ℕ) → sinceAfter n (s ++ t) ≡ sinc
 unfolding sinceAfter
 since-append n [] t = refl
 since-append n (b ∷ s) t = since-append (cond (eqb b newline) 0 (suc n)) s t
+
+-- There are no more newlines than bytes, in the front of a text too.
+counting-fits : (is : Bool) {m n : ℕ} → m ≤ n → counting is m ≤ suc n
+counting-fits true h = omega arith
+counting-fits false h = omega arith
+
+pub newlines-fit : (s : List ℕ) → newlines s ≤ length s
+unfolding newlines
+newlines-fit [] = omega arith
+newlines-fit (b ∷ s) = counting-fits (eqb b newline) (newlines-fit s)
+
+pub front-newlines : (k : ℕ) (s : List ℕ) → newlines (take k s) ≤ length s
+front-newlines k s = omega (arith, newlines-fit (take k s), length-take k s)
+
+-- Nor are there more bytes since the last newline; and without a newline they are all.
+since-byte-fits : (is : Bool) (n k : ℕ) (after : ℕ → ℕ) → ((m : ℕ) → after m ≤ m + k) → after (cond is 0 (suc n)) ≤ n + suc k
+since-byte-fits true n k after rest = omega (arith, rest 0)
+since-byte-fits false n k after rest = omega (arith, rest (suc n))
+
+pub since-fits : (n : ℕ) (s : List ℕ) → sinceAfter n s ≤ n + length s
+unfolding sinceAfter
+since-fits n [] = omega arith
+since-fits n (b ∷ s) = since-byte-fits (eqb b newline) n (length s) (λ m. sinceAfter m s) (λ m. since-fits m s)
+
+since-byte-more : (is : Bool) (n k : ℕ) (s : List ℕ) (after : ℕ → ℕ) → counting is k ≡ 0
+    → ((m : ℕ) → k ≡ 0 → after m ≡ m + length s) → after (cond is 0 (suc n)) ≡ n + suc (length s)
+since-byte-more true n k s after none rest = absurd (omega arith)
+since-byte-more false n k s after none rest = rest (suc n) none ∙ omega arith
+
+pub since-unbroken : (n : ℕ) (s : List ℕ) → newlines s ≡ 0 → sinceAfter n s ≡ n + length s
+unfolding newlines sinceAfter
+since-unbroken n [] none = omega arith
+since-unbroken n (b ∷ s) none =
+    since-byte-more (eqb b newline) n (newlines s) s (λ m. sinceAfter m s) none (λ m. since-unbroken m s)
 
 length-beginning : (is : Bool) (b n : ℕ) (ls : List (List ℕ)) → length ls ≡ suc n → length (beginning is b ls) ≡ suc (counting is n)
 length-beginning true b n ls e = ap suc e

@@ -12,10 +12,9 @@ use Rattle.gap.specs.Sequence.{zeros}
 use Rattle.gap.specs.Doc.{Doc, room, move, times}
 use Rattle.gap.specs.Layout.{gapped, ungap, IsGap}
 use Rattle.gap.proofs.Laws.Doc.{moves-left, moves-right}
-use Rattle.gap.proofs.Laws.Layout.{length-gapped, ungap-gapped}
+use Rattle.gap.proofs.Laws.Layout.{length-gapped, ungap-gapped, length-left, length-right}
 use Rattle.gap.proofs.Laws.Shifts.{carried}
-use Rattle.gap.proofs.Laws.Stores.{Filled, fill-left, fill-right, taken, vacated, placed, side}
-use Rattle.gap.proofs.Laws.Stores.{length-left, length-right, sizes, enough}
+use Rattle.gap.proofs.Laws.Stores.{Filled, fill-left, fill-right, taken, vacated, placed, side, sizes, enough}
 
 -- The run v of k bytes left of the cursor, at `front`, or right of it, at `back`: without it both stores are the same. So the two
 -- places may overlap or be the same.
@@ -61,7 +60,7 @@ pub moves : (way : Direction) {l r k : ℕ} {s t : List ℕ} → IsGap l r s × 
     → t ≡ gapped (length s) (times (move way) k (ungap l r s))
 moves way {l} {r} {k} {s} (gap, h) made =
     made
-    ∙ rw (length-left gap, length-right gap, gap .holds) at (cross way (length s) k (ungap l r s) (sizes gap) (enough gap way k h))
+    ∙ rw (length-left l r s (gap .fits), length-right l r s (gap .fits), gap .holds) at (cross way (length s) k (ungap l r s) (sizes gap) (enough gap way k h))
 
 -- The store of a document is a gap store for the lengths of its texts.
 pub gap-is : (n : ℕ) (d : Doc) → length (d .l) + length (d .r) ≤ n → IsGap (length (d .l)) (length (d .r)) (gapped n d)

@@ -1,7 +1,7 @@
--- One law of the nearest number: what `nearest` answers is the least that passes, and it answers Nowhere exactly when none does.
-use mathlib.Core.Path.{_≡_, refl, sym, ap, _∙_}
+-- Laws of the nearest number: what `nearest` answers is the least that passes, and it answers Nowhere exactly when none does.
+use mathlib.Core.Path.{_≡_, refl, sym, ap, ap₂, _∙_}
 use mathlib.Core.Logic.{⊎-elim}
-use mathlib.Core.Bool.{Bool, true, false}
+use mathlib.Core.Bool.{Bool, true, false, cond}
 use Prim.Native.Nat.{ℕ, zero, suc, _+_, _≤_, _<_}
 use native.Mathlib.Nat.{le-refl, eq-or-lt-of-le}
 use native.Mathlib.Omega.{arith}
@@ -73,3 +73,11 @@ none-nowhere test zero k none = refl
 none-nowhere test (suc n) k none =
     further test n k (none k (le-refl k) (omega arith))
     ∙ none-nowhere test n (suc k) (λ j low high. none j (omega arith) (omega arith))
+
+-- Tests that agree on the numbers looked at find the same number.
+pub nearest-same : {f g : ℕ → Bool} (n k : ℕ) → ((j : ℕ) → k ≤ j → j < k + n → f j ≡ g j) → nearest f n k ≡ nearest g n k
+unfolding nearest
+nearest-same zero k same = refl
+nearest-same (suc n) k same =
+    ap₂ (λ passes further. cond passes (Reached k) further) (same k (omega arith) (omega arith))
+    (nearest-same n (suc k) (λ j low high. same j (omega arith) (omega arith)))

@@ -24,10 +24,10 @@ module _ (test : ℕ → Bool) (s : List ℕ) where
   tested-start = record { within = omega arith; rest = refl }
 
   module _ (ok : Bool) (i : ℕ) (so-far : Tested test s ok i) where
-    pub tested-more : i < length s → Tested test s (ok && test (getD s i 0)) (i + 1)
+    pub tested-more : i < length s → {next : Bool} → next ≡ test (getD s i 0) → Tested test s (ok && next) (i + 1)
     unfolding every
-    tested-more more =
-        record { within = omega arith; rest = so-far .rest ∙ rw (add-one, drop-cons s i 0) (sym (and-assoc ok _ _)) }
+    tested-more more e =
+        record { within = omega arith; rest = so-far .rest ∙ rw (e, add-one, drop-cons s i 0) (sym (and-assoc ok _ _)) }
 
     pub tested-all : length s ≤ i → ok ≡ every test s
     unfolding every
@@ -63,8 +63,26 @@ module _ (test : ℕ → Bool) (n k : ℕ) where
     unfolding nearest
     scan-none end = let none : k + n - d ≡ 0 = omega arith in sym (so-far .rest ∙ ap (λ m. nearest test m d) none)
 
--- Where every byte of a text passes, none is the first that does not.
-pub every-nowhere : (test : ℕ → Bool) (s : List ℕ) → every test s ≡ true
-    → Nowhere ≡ nearest (λ i. not (test (getD s i 0))) (length s) 0
-every-nowhere test s all =
-    sym (none-nowhere (λ i. not (test (getD s i 0))) (length s) 0 (λ j low high. ap not (every-at test s j all (omega arith))))
+-- The first byte of a text that fails a test: those before place i pass, so that the others decide.
+pub record PassedUpTo (test : ℕ → Bool) (s : List ℕ) (i : ℕ) : Type 0 where
+  pub scan : Scan (λ j. not (test (getD s j 0))) (length s) 0 i
+
+module _ (test : ℕ → Bool) (s : List ℕ) where
+  pub passed-start : PassedUpTo test s 0
+  passed-start = record { scan = scan-start _ _ _ }
+
+  module _ (i : ℕ) (so-far : PassedUpTo test s i) where
+    module _ (more : i < length s) {ok : Bool} (e : ok ≡ test (getD s i 0)) where
+      pub passed-found : not ok ≡ true → Reached i ≡ nearest (λ j. not (test (getD s j 0))) (length s) 0
+      passed-found fails = scan-found _ _ _ i (so-far .scan) (omega arith) (ap not (sym e) ∙ fails)
+
+      pub passed-more : not ok ≡ false → PassedUpTo test s (i + 1)
+      passed-more passes = record { scan = scan-more _ _ _ i (so-far .scan) (omega arith) (ap not (sym e) ∙ passes) }
+
+    pub passed-all : length s ≤ i → Nowhere ≡ nearest (λ j. not (test (getD s j 0))) (length s) 0
+    passed-all end = scan-none _ _ _ i (so-far .scan) (omega arith)
+
+  -- Where every byte passes, none is the first that does not.
+  pub every-nowhere : {all : Bool} → all ≡ every test s → all ≡ true → Nowhere ≡ nearest (λ i. not (test (getD s i 0))) (length s) 0
+  every-nowhere tested e =
+      sym (none-nowhere _ (length s) 0 (λ j low high. ap not (every-at test s j (sym tested ∙ e) (omega arith))))

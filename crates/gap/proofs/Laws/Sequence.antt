@@ -1,12 +1,13 @@
--- Laws of sequences: `every`, `sameBytes`, `begins`, `part`, `zeros` and `counted`.
+-- Laws of sequences: `every`, `sameBytes`, `begins`, `part`, `zeros`, `counted` and `map`.
 use mathlib.Core.Path.{_≡_, refl, sym, ap, ap₂, _∙_}
 use mathlib.Core.Bool.{Bool, true, false≢true}
-use mathlib.Core.List.{List, [], _∷_, _++_}
-use Prim.Native.Nat.{ℕ, zero, suc, _+_, _≤_, _<_, suc-le-suc}
-use native.Mathlib.Nat.{le-of-suc-le-suc, not-suc-le-zero, zero-lt-suc}
+use mathlib.Core.List.{List, [], _∷_, _++_, map}
+use Prim.Native.Nat.{ℕ, zero, suc, _+_, _≤_, _<_, min, suc-le-suc}
+use native.Mathlib.Nat.{le-of-suc-le-suc, not-suc-le-zero, zero-lt-suc, zero-min, min-zero, suc-min-suc}
 use native.Mathlib.Omega.{arith}
 use lib.Dec.{eqb}
 use lib.ListN.{length, take, drop, getD, take-append-drop, length-take, length-drop, length-replicate}
+use lib.Seq.{take-nil}
 use borrow.Author.Tests.{eqb-true, eq-eqb}
 use Rattle.gap.specs.Sequence.{every, sameBytes, begins, part, zeros, counted}
 use Rattle.gap.specs.Layout.{free}
@@ -34,12 +35,23 @@ module _ (test : ℕ → Bool) where
   pub every-drop : (n : ℕ) (s : List ℕ) → every test s ≡ true → every test (drop n s) ≡ true
   every-drop n s p = every-right (take n s) (drop n s) (rw take-append-drop p)
 
-  -- What every byte passes, each byte passes, wherever it stands; and the other way round.
+  -- What every byte passes, each byte passes, wherever it stands, or what takes its place there; and the other way round.
   pub every-at : (s : List ℕ) (i : ℕ) → every test s ≡ true → i < length s → test (getD s i 0) ≡ true
   unfolding every
   every-at [] i p h = absurd (not-suc-le-zero h)
   every-at (b ∷ s) zero p h = and-left (test b) _ p
   every-at (b ∷ s) (suc i) p h = every-at s i (and-right (test b) _ p) (le-of-suc-le-suc h)
+
+  pub every-or : (s : List ℕ) (i none : ℕ) → every test s ≡ true → test none ≡ true → test (getD s i none) ≡ true
+  unfolding every
+  every-or [] i none all ok = ok
+  every-or (b ∷ s) zero none all ok = and-left (test b) _ all
+  every-or (b ∷ s) (suc i) none all ok = every-or s i none (and-right (test b) _ all) ok
+
+  pub every-map : (f : ℕ → ℕ) (s : List ℕ) → ((k : ℕ) → test (f k) ≡ true) → every test (map f s) ≡ true
+  unfolding every
+  every-map f [] all = refl
+  every-map f (k ∷ s) all = and-both (all k) (every-map f s all)
 
   pub at-every : (s : List ℕ) → ((i : ℕ) → i < length s → test (getD s i 0) ≡ true) → every test s ≡ true
   unfolding every
@@ -63,6 +75,13 @@ pub begins-split : (pattern text : List ℕ) → begins pattern text ≡ true �
 unfolding begins
 begins-split pattern text p =
     sym (take-append-drop (length pattern) text) ∙ ap (λ s. s ++ drop (length pattern) text) (sym (same-equal pattern _ p))
+
+-- The front of a front is the shorter of the two.
+pub take-least : (n m : ℕ) (s : List ℕ) → take (min n m) s ≡ take m (take n s)
+take-least zero m s = rw zero-min (sym (take-nil m))
+take-least (suc n) zero s = rw min-zero
+take-least (suc n) (suc m) [] = rw suc-min-suc
+take-least (suc n) (suc m) (b ∷ s) = rw suc-min-suc (ap (λ rest. b ∷ rest) (take-least n m s))
 
 pub length-part : (a k : ℕ) (s : List ℕ) → a + k ≤ length s → length (part a k s) ≡ k
 unfolding part
@@ -93,3 +112,12 @@ unfolding counted
 at-counted zero k i h = absurd (not-suc-le-zero h)
 at-counted (suc n) k zero h = omega arith
 at-counted (suc n) k (suc i) h = at-counted n (suc k) i (le-of-suc-le-suc h) ∙ omega arith
+
+-- What makes a whole list makes each of its elements; of numbers in a row, by their places.
+pub at-map : {A B : Type 0} (f : A → B) (s : List A) (i : ℕ) (a : A) (b : B) → i < length s → getD (map f s) i b ≡ f (getD s i a)
+at-map f [] i a b h = absurd (not-suc-le-zero h)
+at-map f (x ∷ s) zero a b h = refl
+at-map f (x ∷ s) (suc i) a b h = at-map f s i a b (le-of-suc-le-suc h)
+
+pub at-counted-map : (f : ℕ → ℕ) (none n k i : ℕ) → i < n → getD (map f (counted n k)) i none ≡ f (k + i)
+at-counted-map f none n k i h = at-map f (counted n k) i 0 none (rw length-counted h) ∙ ap f (at-counted n k i h)

@@ -14,6 +14,7 @@ use Rattle.gap.specs.Doc.{Doc, room, delete, times, passed, removed, spl
 use Rattle.gap.specs.Layout.{gapped, paired, ungap, unpair, IsGap}
 use Rattle.gap.proofs.Laws.Sequence.{length-part, length-zeros}
 use Rattle.gap.proofs.Laws.Doc.{same-texts, deletions-left, deletions-right, insertions}
+use Rattle.gap.proofs.Laws.Layout.{length-left, length-right}
 use Rattle.gap.proofs.Laws.Runs.{zeros-both, part-middle, patch-none, patch-one, patch-middle, tailOf, tail-lent, part-lent}
 
 -- Two stores that differ in one run of k bytes: at the place, the one has the run and the other has zeros.
@@ -124,25 +125,23 @@ alone Right k d m = rw zero-add
 
 -- The store of a routine, which holds texts of l and r bytes.
 module _ {l r : ℕ} {s : List ℕ} (gap : IsGap l r s) where
-  pub length-left : length (ungap l r s .l) ≡ l
-  unfolding ungap
-  length-left = length-take-le l s (omega arith)
+  left : length (ungap l r s .l) ≡ l
+  left = length-left l r s (gap .fits)
 
-  pub length-right : length (ungap l r s .r) ≡ r
-  unfolding ungap
-  length-right = rw length-drop (omega arith)
+  right : length (ungap l r s .r) ≡ r
+  right = length-right l r s (gap .fits)
 
   pub sizes : length (ungap l r s .l) + length (ungap l r s .r) ≤ length s
-  sizes = rw (length-left, length-right) (gap .fits)
+  sizes = rw (left, right) (gap .fits)
 
   pub enough : (way : Direction) (k : ℕ) → k ≤ side way l r → k ≤ room way (ungap l r s)
-  enough Left k h = rw length-left h
-  enough Right k h = rw length-right h
+  enough Left k h = rw left h
+  enough Right k h = rw right h
 
   module _ (way : Direction) (k : ℕ) (h : k ≤ side way l r) where
     gap-deleted : Filled (from way (length s) l r k) k (passed way k (ungap l r s)) s
         (gapped (length s) (times (delete way) k (ungap l r s)))
-    gap-deleted = rw (length-left, length-right, gap .holds) at (deleted (length s) (ungap l r s) sizes way k (enough way k h))
+    gap-deleted = rw (left, right, gap .holds) at (deleted (length s) (ungap l r s) sizes way k (enough way k h))
 
     pub deletes : patch (from way (length s) l r k) (zeros k) s ≡ gapped (length s) (times (delete way) k (ungap l r s))
     deletes = vacated gap-deleted
@@ -153,7 +152,7 @@ module _ {l r : ℕ} {s : List ℕ} (gap : IsGap l r s) where
   gap-inserted : (p : Doc) → l + r + (length (p .l) + length (p .r)) ≤ length s
       → patch (length s - r - length (p .r)) (p .r) (patch l (p .l) s) ≡ gapped (length s) (splice 0 0 p (ungap l r s))
   gap-inserted p h =
-      rw (length-left, length-right, gap .holds) at (inserted (length s) (ungap l r s) sizes p (rw (length-left, length-right) h))
+      rw (left, right, gap .holds) at (inserted (length s) (ungap l r s) sizes p (rw (left, right) h))
 
   pub inserts : (b : ℕ) → l + r < length s
       → set s l b ≡ gapped (length s) (splice 0 0 (record { l = b ∷ []; r = [] }) (ungap l r s))

@@ -1,11 +1,11 @@
--- The numbers below 100,000 and the bytes that are read as numbers correspond one to one: what is written is read back, and what is
--- read is written back.
+-- Whatever limit is set to their digits, the numbers below that power of ten and the bytes that are read as numbers correspond one to
+-- one: what is written is read back, and what is read is written back.
 use mathlib.Core.Path.{_≡_, refl, sym, ap, _∙_}
 use mathlib.Core.Logic.{⊎-elim}
 use mathlib.Core.Bool.{true, _||_, not}
 use mathlib.Core.List.{List, [], _∷_, _++_, append-nil}
-use Prim.Native.Nat.{ℕ, _+_, _-_, _*_, _/_, _%_, _≤_, _<_}
-use native.Mathlib.Nat.{eq-zero-or-pos, pos-of-ne-zero}
+use Prim.Native.Nat.{ℕ, zero, suc, _+_, _-_, _*_, _/_, _%_, _^_, _≤_, _<_}
+use native.Mathlib.Nat.{eq-zero-or-pos, pos-of-ne-zero, not-suc-le-zero}
 use native.Mathlib.Omega.{arith}
 use lib.Dec.{eqb}
 use lib.ListN.{length, getD, List·getD-append}
@@ -16,20 +16,7 @@ use Rattle.gap.specs.Sequence.{every}
 use Rattle.gap.specs.Decimal.{digit, valueAfter, value, isNumber, numberOf, decimal}
 use Rattle.gap.proofs.Laws.Tests.{decided, and-left, and-right, and-both, or-cases, or-left, or-right}
 use Rattle.gap.proofs.Laws.Decimals.{by-tenths, decimal-digit, decimal-step, decimal-some, decimal-within, decimal-digits}
-use Rattle.gap.proofs.Laws.Decimals.{digit-range, value-small, number-tests, Numeral, number-is, number-read, number-unread}
-
-value-append : (n : ℕ) (s t : List ℕ) → valueAfter n (s ++ t) ≡ valueAfter (valueAfter n s) t
-unfolding valueAfter
-value-append n [] t = refl
-value-append n (b ∷ s) t = value-append (n * 10 + (b - 48)) s t
-
--- The digits of a number are worth it.
-pub value-decimal : (n : ℕ) → value (decimal n) ≡ n
-unfolding valueAfter
-value-decimal =
-    by-tenths (λ n. value (decimal n) ≡ n)
-    (λ n small. rw (decimal-digit n small) (omega arith))
-    (λ n large tenth. rw (decimal-step n large, value-append, tenth) (omega arith))
+use Rattle.gap.proofs.Laws.Decimals.{digit-range, value-within, value-decimal, number-tests, Numeral, number-is, number-read, number-unread}
 
 -- Only 0 has a zero in front.
 first-digit : (n : ℕ) → 0 < n → 49 ≤ getD (decimal n) 0 0
@@ -46,12 +33,13 @@ no-zero n =
     (λ some. or-right (eqb (length (decimal n)) 1) (ap not (ne-eqb (getD (decimal n) 0 0) 48 (λ e. omega (arith, first-digit n some)))))
     (eq-zero-or-pos n)
 
-pub written-read : (n : ℕ) → n < 100000 → numberOf (decimal n) ≡ Read n
-written-read n small =
+pub written-read : (most n : ℕ) → 1 ≤ most → n < 10 ^ most → numberOf most (decimal n) ≡ Read n
+written-read zero n one small = absurd (not-suc-le-zero one)
+written-read (suc most) n one small =
     let some : 1 ≤ length (decimal n) = decimal-some n in
-    let few : length (decimal n) ≤ 5 = decimal-within n 4 small in
-    let is : isNumber (decimal n) ≡ true = sym (number-tests (decimal n) some few refl) ∙ and-both (decimal-digits n) (no-zero n) in
-    sym (number-read (decimal n) is) ∙ ap Read (value-decimal n)
+    let few : length (decimal n) ≤ suc most = decimal-within n most small in
+    let is = sym (number-tests (suc most) (decimal n) some few refl) ∙ and-both (decimal-digits n) (no-zero n) in
+    sym (number-read (suc most) (decimal n) is) ∙ ap Read (value-decimal n)
 
 -- Digits behind a number, which is not 0, are written behind its digits.
 digits-behind : (n : ℕ) (s : List ℕ) → 0 < n → every digit s ≡ true → decimal (valueAfter n s) ≡ decimal n ++ s
@@ -72,8 +60,8 @@ digit-written b p =
     decimal-digit (0 * 10 + (b - 48)) (omega arith) ∙ ap (λ d. d ∷ []) same
 
 -- The first of two digits or more is not a zero.
-front-digit : (b c : ℕ) (s : List ℕ) → Numeral (b ∷ (c ∷ s)) → digit b ≡ true → 0 < b - 48
-front-digit b c s is p =
+front-digit : (most b c : ℕ) (s : List ℕ) → Numeral most (b ∷ (c ∷ s)) → digit b ≡ true → 0 < b - 48
+front-digit most b c s is p =
     let range : (48 ≤ b) × (b ≤ 57) = digit-range b p in
     ⊎-elim
     (λ one. absurd (omega (arith, eqb-true (length (b ∷ (c ∷ s))) 1 one)))
@@ -81,27 +69,28 @@ front-digit b c s is p =
     (or-cases (eqb (length (b ∷ (c ∷ s))) 1) (not (eqb b 48)) (is .front))
 
 -- So the bytes that a number is read from are the digits that it is written with.
-numeral-written : (s : List ℕ) → Numeral s → decimal (value s) ≡ s
+numeral-written : (most : ℕ) (s : List ℕ) → Numeral most s → decimal (value s) ≡ s
 unfolding valueAfter every
-numeral-written [] is = absurd (omega (arith, is .some))
-numeral-written (b ∷ []) is = digit-written b (and-left (digit b) _ (is .digits))
-numeral-written (b ∷ (c ∷ s)) is =
+numeral-written most [] is = absurd (omega (arith, is .some))
+numeral-written most (b ∷ []) is = digit-written b (and-left (digit b) _ (is .digits))
+numeral-written most (b ∷ (c ∷ s)) is =
     let first : digit b ≡ true = and-left (digit b) _ (is .digits) in
-    digits-behind (0 * 10 + (b - 48)) (c ∷ s) (omega (arith, front-digit b c s is first)) (and-right (digit b) _ (is .digits))
+    digits-behind (0 * 10 + (b - 48)) (c ∷ s) (omega (arith, front-digit most b c s is first)) (and-right (digit b) _ (is .digits))
     ∙ ap (λ t. t ++ (c ∷ s)) (digit-written b first)
 
-read-value : (s : List ℕ) (n : ℕ) → numberOf s ≡ Read n → Numeral s × (value s ≡ n)
-read-value s n e =
-    ⊎-elim
-    (λ yes-it-is. let same : Read (value s) ≡ Read n = number-read s yes-it-is ∙ e in (number-is s yes-it-is, cc))
-    (λ no-it-is.
-    let other : Unreadable ≡ Read n = number-unread s no-it-is ∙ e in
-    let never : _≡_ {A = ℕ} 0 1 = cc in
-    absurd (omega arith))
-    (decided (isNumber s))
+module _ (most : ℕ) (s : List ℕ) (n : ℕ) (e : numberOf most s ≡ Read n) where
+  read-value : Numeral most s × (value s ≡ n)
+  read-value =
+      ⊎-elim
+      (λ yes-it-is. let same : Read (value s) ≡ Read n = number-read most s yes-it-is ∙ e in (number-is most s yes-it-is, cc))
+      (λ no-it-is.
+      let other : Unreadable ≡ Read n = number-unread most s no-it-is ∙ e in
+      let never : _≡_ {A = ℕ} 0 1 = cc in
+      absurd (omega arith))
+      (decided (isNumber most s))
 
-pub read-written : (s : List ℕ) (n : ℕ) → numberOf s ≡ Read n → decimal n ≡ s
-read-written s n e = let (is, worth) = read-value s n e in ap decimal (sym worth) ∙ numeral-written s is
+  pub read-written : decimal n ≡ s
+  read-written = let (is, worth) = read-value in ap decimal (sym worth) ∙ numeral-written most s is
 
-pub read-small : (s : List ℕ) (n : ℕ) → numberOf s ≡ Read n → n < 100000
-read-small s n e = let (is, worth) = read-value s n e in omega (arith, value-small s (is .few) (is .digits))
+  pub read-small : n < 10 ^ most
+  read-small = let (is, worth) = read-value in omega (arith, value-within most s (is .few) (is .digits))

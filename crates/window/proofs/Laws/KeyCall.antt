@@ -2,18 +2,18 @@
 use mathlib.Core.Path.{_≡_, refl, sym, ap, ap₂, _∙_}
 use mathlib.Core.Logic.{⊎-elim}
 use mathlib.Core.Bool.{Bool, true, false, _&&_}
-use mathlib.Core.List.{List, [], _∷_}
-use Prim.Native.Nat.{ℕ, suc, _+_, _-_, _*_, _≤_, _<_}
+use mathlib.Core.List.{List}
+use Prim.Native.Nat.{ℕ, _+_, _-_, _*_, _≤_, _<_}
 use native.Mathlib.Nat.{le-trans, mul-le-mul-left, mul-le-mul-right}
 use native.Mathlib.Omega.{arith}
 use lib.Dec.{eqb, leb}
 use lib.ListN.{length, length-append, length-take}
 use borrow.Author.Tests.{leb-true, eq-eqb}
 use Rattle.gap.specs.Doc.{Doc}
-use Rattle.gap.specs.Lines.{newline, newlines, sinceAfter}
 use Rattle.gap.specs.Layout.{ungap}
-use Rattle.gap.proofs.Laws.Tests.{decided, and-left, and-right, and-both, cond-true, cond-false}
+use Rattle.gap.proofs.Laws.Tests.{and-left, and-right, and-both, cond-true, cond-false}
 use Rattle.gap.proofs.Laws.Layout.{length-gapped}
+use Rattle.gap.proofs.Laws.Lines.{newlines-fit, since-fits}
 use Rattle.editor.specs.declared.Reply.{Reply as editorReply}
 use Rattle.editor.specs.Plain.{Plain, Did, Outcome, refused, done, SIZE, SESSION}
 use Rattle.editor.specs.Keys.{key}
@@ -78,25 +78,6 @@ module _ (n : Lengths) (t c s : List ℕ) (sound : Sound quarter n (stores t c s
   texts-held =
       let fits = fitting quarter n (stores t c s) sound in
       record { document = fits .document; long = fits .high; quotation = fits .quotation; quarters = fits .side }
-
-newlines-short : (s : List ℕ) → newlines s ≤ length s
-unfolding newlines
-newlines-short [] = omega arith
-newlines-short (b ∷ s) =
-    let rest = newlines-short s in
-    ⊎-elim
-    (λ e. rw (cond-true (suc (newlines s)) (newlines s) e) (omega (arith, rest)))
-    (λ e. rw (cond-false (suc (newlines s)) (newlines s) e) (omega (arith, rest)))
-    (decided (eqb b newline))
-
-since-short : (n : ℕ) (s : List ℕ) → sinceAfter n s ≤ n + length s
-unfolding sinceAfter
-since-short n [] = omega arith
-since-short n (b ∷ s) =
-    ⊎-elim
-    (λ e. rw (cond-true 0 (suc n) e) (omega (arith, since-short 0 s)))
-    (λ e. rw (cond-false 0 (suc n) e) (omega (arith, since-short (suc n) s)))
-    (decided (eqb b newline))
 
 left-short : (m : Mode) (d q : Doc) → length (virtualIn m d q .l) ≤ length (d .l) + (2 + length (q .l))
 unfolding virtualIn
@@ -179,8 +160,8 @@ module _ (f : Frame) (n : Lengths) (t c s scr : List ℕ) (sound : Sound quarter
           rows = omega (arith, rows, tall);
           columns = omega (arith, columns, wide);
           offsets = (
-            omega (arith, says .top, newlines-short (d .l), left, document, quotation, held .document, held .long, held .quotation),
-            omega (arith, says .left, since-short 0 (d .l), left, document, quotation, held .document, held .long, held .quotation),
+            omega (arith, says .top, newlines-fit (d .l), left, document, quotation, held .document, held .long, held .quotation),
+            omega (arith, says .left, since-fits 0 (d .l), left, document, quotation, held .document, held .long, held .quotation),
           );
           short = omega (arith, held .long);
         }

@@ -10,7 +10,7 @@ use lib.ListN.{length, take, length-append}
 use lib.Seq.{take-take, take-length, length-take-le, take-append-seam, take-append-add}
 use borrow.Author.Tests.{eqb-true}
 use Rattle.gap.specs.Lines.{newline, newlines, sinceAfter, since}
-use Rattle.gap.proofs.Laws.Lines.{newlines-append, since-append}
+use Rattle.gap.proofs.Laws.Lines.{newlines-append, since-append, since-unbroken}
 use Rattle.window.specs.Painter.{LineStart}
 
 -- A text with a newline, cut at its last one.
@@ -33,18 +33,6 @@ last-newline : (s : List ℕ) → 0 < newlines s → LastNewline s
 unfolding newlines
 last-newline [] some = absurd (omega arith)
 last-newline (b ∷ s) some = cut-byte b s (eqb b newline) (newlines s) refl refl some (last-newline s)
-
--- Without a newline the column goes on.
-unbroken-byte : (is : Bool) (n : ℕ) (s : List ℕ) → cond is (suc (newlines s)) (newlines s) ≡ 0
-    → ((m : ℕ) → newlines s ≡ 0 → sinceAfter m s ≡ m + length s)
-    → sinceAfter (cond is 0 (suc n)) s ≡ n + suc (length s)
-unbroken-byte true n s none rest = absurd (omega arith)
-unbroken-byte false n s none rest = rest (suc n) none ∙ omega arith
-
-since-unbroken : (n : ℕ) (s : List ℕ) → newlines s ≡ 0 → sinceAfter n s ≡ n + length s
-unfolding newlines sinceAfter
-since-unbroken n [] none = omega arith
-since-unbroken n (b ∷ s) none = unbroken-byte (eqb b newline) n s none (λ m. since-unbroken m s)
 
 -- Where the last line of a text starts, counted back from its end.
 record LastLine (s : List ℕ) : Type 0 where

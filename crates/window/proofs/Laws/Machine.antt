@@ -10,12 +10,10 @@ use borrow.Author.Tests.{leb-true, lt-ltb, le-leb, lt-leb, ne-eqb}
 use Rattle.gap.specs.Sequence.{every, patch}
 use Rattle.gap.specs.Decimal.{digit, valueAfter, decimal}
 use Rattle.gap.specs.Layout.{printable}
-use Rattle.gap.specs.Written.{Wrote}
 use Rattle.gap.proofs.Laws.Tests.{and-left, and-right, and-both, cond-true, cond-false}
-use Rattle.gap.proofs.Laws.Decimals.{decimal-digits}
-use Rattle.gap.proofs.Laws.Runs.{length-patch, patch-none, patch-one}
-use Rattle.gap.proofs.Laws.Writers.{then}
-use Rattle.gap.proofs.Theorems.Decimals.{value-decimal}
+use Rattle.gap.proofs.Laws.Decimals.{decimal-digits, value-decimal}
+use Rattle.gap.proofs.Laws.Runs.{patch-none, patch-one}
+use Rattle.gap.proofs.Laws.Patches.{patch-behind}
 use Rattle.window.specs.Sequences.{placed}
 use Rattle.window.specs.Machine.{Machine, cells, rowNumber, columnNumber, reads, cellShown, goes, step, feed}
 
@@ -81,16 +79,6 @@ module _ (H W : ℕ) where
       feed-placed row column m ready
       ∙ cond-true _ _ (and-both (and-both (le-leb 1 row top) (le-leb row H bottom)) (and-both (le-leb 1 column left) (le-leb column W right)))
 
--- Two runs, the second behind the first, are one run.
-pub patch-behind : (a : ℕ) (xs ys s : List ℕ) → a + (length xs + length ys) ≤ length s
-    → patch (a + length xs) ys (patch a xs s) ≡ patch a (xs ++ ys) s
-patch-behind a xs ys s fits =
-    let size : length (patch a xs s) ≡ length s = length-patch a xs s (omega arith) in
-    let front : Wrote a xs s (a + length xs) (patch a xs s) = record { fits = omega arith; place = refl; bytes = refl } in
-    let behind : Wrote (a + length xs) ys (patch a xs s) (a + length xs + length ys) (patch (a + length xs) ys (patch a xs s)) =
-    record { fits = omega arith; place = refl; bytes = refl } in
-    then front behind .bytes
-
 -- A byte that is printed, where cells are read.
 not-escape : (b : ℕ) → printable b ≡ true → eqb b 27 ≡ false
 not-escape b p = ne-eqb b 27 (λ e. omega (arith, leb-true 32 b (and-left (leb 32 b) _ p)))
@@ -128,5 +116,5 @@ module _ (H W row : ℕ) where
       ∙ (ap (λ j. feed H W (c ∷ run) (machine (set s (place column) b) row j)) (cond-true _ _ (lt-ltb column W inside))
       ∙ (feed-run (c ∷ run) (set s (place column) b) (suc column) (omega arith) inside (omega arith) (rw length-set (omega arith)) (and-right (printable b) _ p)
       ∙ ap₂ (λ t j. machine t row j)
-      (ap₂ (λ a t. patch a (c ∷ run) t) further (patch-one s (place column) b (omega arith)) ∙ patch-behind (place column) (b ∷ []) (c ∷ run) s (omega arith))
+      (ap₂ (λ a t. patch a (c ∷ run) t) further (patch-one s (place column) b (omega arith)) ∙ patch-behind (b ∷ []) (c ∷ run) s (place column) 1 refl (omega arith))
       (ap (within W) end)))

@@ -1,12 +1,12 @@
 -- The opening call: what its tests refuse, and what a text that passes them becomes in the four stores.
-use mathlib.Core.Path.{_≡_, refl, sym, ap, ap₂, _∙_}
-use mathlib.Core.Bool.{Bool, true, false, not, _&&_, cond}
+use mathlib.Core.Path.{_≡_, sym, ap, ap₂, _∙_}
+use mathlib.Core.Bool.{Bool, true, false, not, _&&_}
 use mathlib.Core.List.{List, [], _++_}
-use Prim.Native.Nat.{ℕ, zero, suc, _+_, _*_, _≤_, _<_}
+use Prim.Native.Nat.{ℕ, _+_, _*_, _≤_, _<_}
 use native.Mathlib.Nat.{sub-zero}
 use native.Mathlib.Omega.{arith}
 use lib.Dec.{leb}
-use lib.ListN.{length, take, getD, replicate-append-replicate}
+use lib.ListN.{length, take, getD}
 use lib.Seq.{length-take-le, getD-take}
 use borrow.Author.Tests.{leb-true, le-leb, lt-leb, not-true, not-false}
 use Rattle.gap.specs.declared.Search.{Search}
@@ -19,6 +19,8 @@ use Rattle.gap.specs.Layout.{allowed, gapped, paired, ungap}
 use Rattle.gap.proofs.Laws.Tests.{and-left, and-right, cond-true, cond-false}
 use Rattle.gap.proofs.Laws.Sequence.{length-zeros}
 use Rattle.gap.proofs.Laws.Layout.{length-gapped, ungap-gapped}
+use Rattle.gap.proofs.Laws.Runs.{zeros-both}
+use Rattle.gap.proofs.Laws.Nearest.{nearest-same}
 use Rattle.editor.specs.Plain.{opening, SIZE, LONG, TEXT}
 use Rattle.editor.specs.Bytes.{quarter, lengthsOf, storesOf}
 use Rattle.editor.proofs.Laws.Quotation.{no-quotation}
@@ -40,19 +42,15 @@ zeros-pair : (size : ℕ) → zeros size ≡ paired size empty
 unfolding paired
 zeros-pair size = ap zeros (sym (sub-zero size))
 
-zeros-both : (k j : ℕ) → zeros (k + j) ≡ zeros k ++ zeros j
-unfolding zeros
-zeros-both k j = sym (replicate-append-replicate {A = ℕ} k j 0)
-
 pairs-twice : (Q : ℕ) → zeros (2 * Q) ≡ paired Q empty ++ paired Q empty
 pairs-twice Q =
     let double : 2 * Q ≡ Q + Q = omega arith in
-    ap zeros double ∙ zeros-both Q Q ∙ ap₂ _++_ (zeros-pair Q) (zeros-pair Q)
+    ap zeros double ∙ sym (zeros-both Q Q) ∙ ap₂ _++_ (zeros-pair Q) (zeros-pair Q)
 
 zeros-side : (Q : ℕ) → zeros (4 * Q) ≡ gapped Q empty ++ (paired Q empty ++ (paired Q empty ++ paired Q empty))
 zeros-side Q =
     let four : 4 * Q ≡ 2 * Q + 2 * Q = omega arith in
-    ap zeros four ∙ zeros-both (2 * Q) (2 * Q) ∙ no-quotation Q (zeros (2 * Q))
+    ap zeros four ∙ sym (zeros-both (2 * Q) (2 * Q)) ∙ no-quotation Q (zeros (2 * Q))
     ∙ ap (λ rest. gapped Q empty ++ (paired Q empty ++ rest)) (pairs-twice Q)
 
 -- What the painter asks of a screen that is as tabled, before any text.
@@ -142,14 +140,6 @@ module _ (n H W : ℕ) (b : Lent) (fit : tabled H W b ≡ true) (fits : n ≤ T 
         }
 
 -- ---- The three tests
-
--- Tests that agree on the numbers looked at find the same number.
-nearest-same : {f g : ℕ → Bool} (n k : ℕ) → ((j : ℕ) → k ≤ j → j < k + n → f j ≡ g j) → nearest f n k ≡ nearest g n k
-unfolding nearest
-nearest-same zero k same = refl
-nearest-same (suc n) k same =
-    ap₂ (λ passes further. cond passes (Reached k) further) (same k (omega arith) (omega arith))
-    (nearest-same n (suc k) (λ j low high. same j (omega arith) (omega arith)))
 
 -- The first n bytes by themselves have the bad byte that they have in the store.
 bad-byte-within : (n : ℕ) (text : List ℕ) → n ≤ length text

@@ -12,6 +12,7 @@ use borrow.Author.Tests.{ltb-true, ltb-false, leb-true, leb-false, lt-ltb, le-lt
 use Rattle.gap.specs.Lines.{newline, newlines, sinceAfter}
 use Rattle.gap.proofs.Laws.Tests.{cond-true}
 use Rattle.gap.proofs.Laws.Runs.{length-patch}
+use Rattle.gap.proofs.Laws.Lines.{since-unbroken}
 use Rattle.window.specs.Words.{Frame}
 use Rattle.window.specs.Painter.{Sheet, above, over, across, spotOf, put, along, letter, lineBelow, rowBelow, lineEnd, paint}
 use Rattle.window.specs.Painter.{Easel, LineStart}
@@ -81,17 +82,6 @@ moved y x p =
       screen = p .screen;
     }
 
--- Without a newline the column grows with each byte.
-since-grows : (n : ℕ) (t : List ℕ) → newlines t ≡ 0 → n + length t ≤ sinceAfter n t
-unfolding newlines sinceAfter
-since-grows n [] e = omega arith
-since-grows n (b ∷ t) e = go (eqb b newline) e (λ m. since-grows m t)
-  where
-    go : (is : Bool) → cond is (suc (newlines t)) (newlines t) ≡ 0 → ((m : ℕ) → newlines t ≡ 0 → m + length t ≤ sinceAfter m t)
-        → n + suc (length t) ≤ sinceAfter (cond is 0 (suc n)) t
-    go true e ih = absurd (omega arith)
-    go false e ih = omega (arith, ih (suc n) e)
-
 -- A text that lies above the window, or at whose end the window's first line starts.
 record Above (f : Frame) (t : List ℕ) (y x : ℕ) : Type 0 where
   up : y < f .r
@@ -102,7 +92,7 @@ record Above (f : Frame) (t : List ℕ) (y x : ℕ) : Type 0 where
 nothing-moves : (f : Frame) (t : List ℕ) (p : Sheet) → newlines t ≡ 0 → sinceAfter 0 t ≡ 0 → paint f t p ≡ behind t p
 unfolding paint newlines sinceAfter
 nothing-moves f [] p e q = let here : p .pen .y ≡ p .pen .y + 0 = omega arith in ap (λ y. moved y (p .pen .x) p) here
-nothing-moves f (b ∷ t) p e q = absurd (omega (arith, since-grows 0 (b ∷ t) e))
+nothing-moves f (b ∷ t) p e q = absurd (omega (arith, since-unbroken 0 (b ∷ t) e))
 
 module _ (f : Frame) where
   above-byte : (is : Bool) (b : ℕ) (t : List ℕ) (p : Sheet)

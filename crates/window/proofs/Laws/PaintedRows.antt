@@ -12,13 +12,12 @@ use lib.Seq.{length-take-le, take-add, take-at, take-all, drop-at, drop-drop}
 use borrow.Author.Tests.{ne-eqb}
 use Rattle.gap.specs.Sequence.{sameBytes, part, patch}
 use Rattle.gap.proofs.Laws.Tests.{clash}
-use Rattle.gap.proofs.Laws.Sequence.{length-part}
+use Rattle.gap.proofs.Laws.Compared.{same-parts}
 use Rattle.window.specs.Words.{Frame}
 use Rattle.window.specs.Rows.{changed, firstRow, lastRow}
 use Rattle.window.specs.Painter.{Sheet, begun, put, rowBelow}
 use Rattle.window.proofs.Laws.Rows.{Named, nothing, run, named}
 use Rattle.window.proofs.Laws.Paint.{moved}
-use Rattle.window.proofs.Laws.PaintedRun.{same-append}
 
 -- What fails up to n and at n + 1 fails up to n + 1.
 fails-up : (test : ℕ → Bool) (n i : ℕ) → test (suc n) ≡ false → (i ≤ n → test i ≡ false) → i ≤ suc n → test i ≡ false
@@ -83,19 +82,6 @@ module _ (k : ℕ) (next old new : List ℕ) (fits : k + length next ≤ length 
   unfolding part
   part-on = ap (take (length next)) (drop-at (take k new) (drop k old) k front)
 
--- Two parts side by side are one, and are the same where both are.
-part-split : (a m n : ℕ) (s : List ℕ) → part a (m + n) s ≡ part a m s ++ part (a + m) n s
-unfolding part
-part-split a m n s = take-add m n (drop a s) ∙ ap (λ t. take m (drop a s) ++ take n t) (drop-drop m a s)
-
-same-split : (a m n : ℕ) (s t : List ℕ) → a + m ≤ length s → a + m ≤ length t
-    → (sameBytes (part a m s) (part a m t) && sameBytes (part (a + m) n s) (part (a + m) n t))
-    ≡ sameBytes (part a (m + n) s) (part a (m + n) t)
-same-split a m n s t fits also =
-    let as-long = length-part a m s fits ∙ sym (length-part a m t also) in
-    rw (part-split a m n s, part-split a m n t)
-    (sym (same-append (part a m s) (part a m t) (part (a + m) n s) (part (a + m) n t) as-long))
-
 either-differs : (a b : Bool) → (not a || not b) ≡ not (a && b)
 either-differs true b = refl
 either-differs false b = refl
@@ -143,7 +129,7 @@ module _ (f : Frame) (old new : List ℕ) where
           mark =
               ap₂ _||_ (so-far .mark) (ap₂ (λ s t. not (sameBytes s t)) here same)
               ∙ either-differs (sameBytes (part start m old) (part start m new)) _
-              ∙ ap not (same-split start m size old new (omega arith) (omega arith));
+              ∙ ap not (same-parts start m size old new (omega arith) (omega arith));
           rows = so-far .rows;
         }
 

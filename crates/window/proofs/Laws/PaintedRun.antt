@@ -1,31 +1,23 @@
 -- The law of a run: a text without newline, painted in a row of the window, is put there in one go.
 use mathlib.Core.Path.{_≡_, refl, sym, ap, ap₂, _∙_}
-use mathlib.Core.Bool.{Bool, true, false, not, _&&_, _||_, and-assoc, or-false}
-use mathlib.Core.List.{List, [], _∷_, _++_, append-assoc}
+use mathlib.Core.Bool.{Bool, true, false, not, _&&_, _||_, or-false}
+use mathlib.Core.List.{List, [], _∷_, _++_}
 use Prim.Native.Nat.{ℕ, zero, suc, _+_, _-_, _*_, _≤_, _<_, min, max}
-use native.Mathlib.Nat.{zero-min, suc-min-suc}
 use native.Mathlib.Omega.{arith}
 use lib.Dec.{eqb}
-use lib.ListN.{length, take, drop, length-append, length-drop}
-use lib.Seq.{length-take-le, take-add, take-at, take-nil, drop-at, drop-drop, drop-nil}
+use lib.ListN.{length, take, drop, length-append, length-take, length-drop}
+use lib.Seq.{take-add, take-all, take-nil, drop-drop, drop-nil}
 use borrow.Author.Tests.{lt-ltb, le-ltb, le-leb, lt-leb, not-true}
 use Rattle.gap.specs.Sequence.{every, sameBytes, part, patch}
 use Rattle.gap.specs.Lines.{newline}
 use Rattle.gap.proofs.Laws.Tests.{and-left, and-right, cond-false}
-use Rattle.gap.proofs.Laws.Sequence.{length-part}
+use Rattle.gap.proofs.Laws.Sequence.{length-part, take-least}
 use Rattle.gap.proofs.Laws.Runs.{length-patch, patch-none}
+use Rattle.gap.proofs.Laws.Patches.{part-behind, patch-behind}
+use Rattle.gap.proofs.Laws.Compared.{same-append}
 use Rattle.window.specs.Words.{Frame}
 use Rattle.window.specs.Painter.{Sheet, above, over, spotOf, put, along, letter, lineEnd, paint}
 use Rattle.window.proofs.Laws.Paint.{moved, InRow, letter-fits}
-
--- Runs put together are the same where their parts are.
-pub same-append : (a s b t : List ℕ) → length a ≡ length s → sameBytes (a ++ b) (s ++ t) ≡ (sameBytes a s && sameBytes b t)
-unfolding sameBytes
-same-append [] [] b t e = refl
-same-append [] (y ∷ s) b t e = absurd (omega arith)
-same-append (x ∷ a) [] b t e = absurd (omega arith)
-same-append (x ∷ a) (y ∷ s) b t e =
-    ap (λ rest. eqb x y && rest) (same-append a s b t (omega arith)) ∙ sym (and-assoc (eqb x y) (sameBytes a s) (sameBytes b t))
 
 -- Nothing put changes nothing, and two runs side by side are put as one.
 pub put-none : (at : ℕ) (p : Sheet) → put at [] p ≡ p
@@ -44,30 +36,6 @@ marks true false b = refl
 marks false false b = refl
 
 module _ (at : ℕ) (s t screen : List ℕ) (fits : at + length s ≤ length screen) where
-  patched : patch at s screen ≡ (take at screen ++ s) ++ drop (at + length s) screen
-  unfolding patch
-  patched = rw (append-assoc, drop-drop)
-
-  front : length (take at screen ++ s) ≡ at + length s
-  front = length-append (take at screen) s ∙ ap (λ n. n + length s) (length-take-le at screen (omega arith))
-
-  take-patched : take (at + length s) (patch at s screen) ≡ take at screen ++ s
-  take-patched = rw patched (take-at (take at screen ++ s) (drop (at + length s) screen) (at + length s) front)
-
-  drop-patched : drop (at + length s) (patch at s screen) ≡ drop (at + length s) screen
-  drop-patched = rw patched (drop-at (take at screen ++ s) (drop (at + length s) screen) (at + length s) front)
-
-  patch-two : patch (at + length s) t (patch at s screen) ≡ patch at (s ++ t) screen
-  unfolding patch
-  patch-two =
-      let behind-both : at + length s + length t ≡ at + (length s + length t) = omega arith in
-      ap₂ (λ a b. a ++ (t ++ drop (length t) b)) take-patched drop-patched
-      ∙ simp (append-assoc, drop-drop, length-append, behind-both)
-
-  part-two : part (at + length s) (length t) (patch at s screen) ≡ part (at + length s) (length t) screen
-  unfolding part
-  part-two = ap (take (length t)) drop-patched
-
   same-two : (sameBytes (part at (length s) screen) s && sameBytes (part (at + length s) (length t) screen) t)
       ≡ sameBytes (part at (length (s ++ t)) screen) (s ++ t)
   unfolding part
@@ -80,7 +48,7 @@ module _ (at : ℕ) (s t screen : List ℕ) (fits : at + length s ≤ length scr
       → (was || not (sameBytes (part at (length s) screen) s) || not (sameBytes (part (at + length s) (length t) (patch at s screen)) t))
       ≡ (was || not (sameBytes (part at (length (s ++ t)) screen) (s ++ t)))
   marked-two was =
-      rw part-two
+      rw (part-behind s screen at (at + length s) (omega arith) fits (length t))
       (marks was (sameBytes (part at (length s) screen) s) (sameBytes (part (at + length s) (length t) screen) t)
       ∙ ap (λ same. was || not same) same-two)
 
@@ -88,7 +56,7 @@ pub put-two : (at : ℕ) (s t : List ℕ) (p : Sheet) → at + length s ≤ leng
     → put (at + length s) t (put at s p) ≡ put at (s ++ t) p
 put-two at s t p fits =
     let marked = marked-two at s t (p .screen) fits (p .pen .changed) in
-    let screens = patch-two at s t (p .screen) fits in
+    let screens = patch-behind s t (p .screen) at (length s) refl fits in
     λ i. record {
       pen = record { y = p .pen .y; x = p .pen .x; changed = marked i; first = p .pen .first; last = p .pen .last };
       screen = screens i;
@@ -191,9 +159,7 @@ module _ (f : Frame) where
 
 -- No more can be taken than there is.
 take-min : (k : ℕ) (s : List ℕ) → take k s ≡ take (min k (length s)) s
-take-min zero s = rw zero-min
-take-min (suc k) [] = sym (take-nil (min (suc k) 0))
-take-min (suc k) (b ∷ s) = rw suc-min-suc (ap (λ t. b ∷ t) (take-min k s))
+take-min k s = sym (take-least k (length s) s ∙ take-all (length s) (take k s) (simp length-take (omega arith)))
 
 -- The run between the first and the last column that it shows, as code finds them.
 abbrev pub lowest : Frame → Sheet → ℕ

@@ -6,7 +6,7 @@ use mathlib.Core.List.{List, [], _++_, append-nil}
 use Prim.Native.Nat.{ℕ, zero, suc, _+_, _-_, _*_, _≤_, _<_}
 use native.Mathlib.Nat.{zero-mul, suc-mul, add-mul}
 use native.Mathlib.Omega.{arith}
-use lib.ListN.{length, take, drop, length-drop, drop-of-length-le, take-append-drop}
+use lib.ListN.{length, take, drop, length-drop, drop-of-length-le}
 use lib.Seq.{take-all, take-add, drop-drop}
 use borrow.Author.Tests.{not-true, not-false, ne-eqb}
 use Rattle.gap.specs.Sequence.{sameBytes, part}
@@ -16,6 +16,7 @@ use Rattle.gap.specs.declared.Search.the-variants.{Reached, Nowhere}
 use Rattle.gap.proofs.Laws.Tests.{clash, cond-false}
 use Rattle.gap.proofs.Laws.Sequence.{same-refl, same-equal}
 use Rattle.gap.proofs.Laws.Nearest.{reached-least, nowhere-none}
+use Rattle.gap.proofs.Laws.Layout.{cut}
 use Rattle.window.specs.Rows.{screenRow, changed, orNone, fromBelow, firstRow, lastRow}
 use Rattle.window.specs.Terminal.{repaint}
 
@@ -110,11 +111,6 @@ pub named : (H W : ℕ) (old new : List ℕ) → Named (changed W old new) H (fi
 unfolding firstRow lastRow
 named H W old new = searched (changed W old new) H _ _ refl refl
 
--- A list cut at two places, put together again.
-cut-twice : (x y : ℕ) (s : List ℕ) → take x s ++ (part x y s ++ drop (x + y) s) ≡ s
-unfolding part
-cut-twice x y s = rw (← drop-drop y x s, take-append-drop y (drop x s)) (take-append-drop x s)
-
 module _ (H W : ℕ) (old new : List ℕ) (old-size : length old ≡ H * W) (new-size : length new ≡ H * W) where
   below-agree : (n : ℕ) → n ≤ H → ((i : ℕ) → n < i → i ≤ H → screenRow W i old ≡ screenRow W i new)
       → drop (n * W) old ≡ drop (n * W) new
@@ -135,7 +131,7 @@ module _ (H W : ℕ) (old new : List ℕ) (old-size : length old ≡ H * W) (new
       let above = above-agree W (first - 1) old new (λ i low high. unchanged-same W old new i (ends .above i low (omega arith))) in
       let below = below-agree last (ends .high) (λ i low high. unchanged-same W old new i (ends .below i low high)) in
       cond-false _ _ (ne-eqb first 0 (omega arith))
-      ∙ rw (above, below, ap (λ n. n * W) rows, add-mul) (cut-twice ((first - 1) * W) ((suc last - first) * W) new)
+      ∙ rw (above, below, ap (λ n. n * W) rows, add-mul) (cut ((first - 1) * W) ((suc last - first) * W) new)
 
   -- A terminal that shows the old screen and repaints the named rows shows the new one.
   pub repainted : repaint W (firstRow H W old new) (lastRow H W old new) new old ≡ new

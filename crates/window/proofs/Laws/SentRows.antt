@@ -13,13 +13,14 @@ use Rattle.gap.specs.Layout.{printable}
 use Rattle.gap.proofs.Laws.Tests.{cond-false}
 use Rattle.gap.proofs.Laws.Sequence.{every-take, every-drop, length-part}
 use Rattle.gap.proofs.Laws.Runs.{length-patch, patch-none}
+use Rattle.gap.proofs.Laws.Patches.{patch-behind}
 use Rattle.window.specs.Window.{joined}
 use Rattle.window.specs.Rows.{screenRow}
 use Rattle.window.specs.Terminal.{repaint}
 use Rattle.window.specs.Sequences.{placed, sentRow, namedRows, sentRows}
 use Rattle.window.specs.Machine.{Machine, cells, feed}
 use Rattle.window.proofs.Laws.Rows.{run-split}
-use Rattle.window.proofs.Laws.Machine.{machine, within-most, feed-append, feed-place, patch-behind, feed-run}
+use Rattle.window.proofs.Laws.Machine.{machine, within-most, feed-append, feed-place, feed-run}
 
 -- What the machine shows after a run of bytes, and that it reads cells again; where it stands does not matter.
 pub record Shows (m : Machine) (s : List ℕ) : Type 0 where
@@ -72,7 +73,7 @@ module _ (H W : ℕ) (screen : List ℕ) (wide : 1 ≤ W) (long : length screen 
       let next : suc a * W ≡ a * W + length (screenRow W (suc a) screen) = omega (arith, suc-mul a W) in
       let inside : a * W + suc n * W ≤ H * W = room a (suc n) fits in
       ap (λ at. patch at (part (suc a * W) (n * W) screen) (rowPatched a s)) next
-      ∙ (patch-behind (a * W) (screenRow W (suc a) screen) (part (suc a * W) (n * W) screen) s (omega (arith, suc-mul n W))
+      ∙ (patch-behind (screenRow W (suc a) screen) (part (suc a * W) (n * W) screen) s (a * W) _ refl (omega (arith, suc-mul n W))
       ∙ ap (λ run. patch (a * W) run s) (sym (run-split W a n screen)))
 
   rows-sent : (n a : ℕ) (m : Machine) → a + n ≤ H → length (m .shows) ≡ H * W → m .reading ≡ cells

@@ -8,8 +8,8 @@ use native.Mathlib.Nat.{zero-mul}
 use native.Mathlib.Numerals.{add-one}
 use native.Mathlib.Omega.{arith}
 use lib.Dec.{leb, ltb}
-use lib.ListN.{length, take, length-take}
-use lib.Seq.{drop-length, take-take}
+use lib.ListN.{take}
+use lib.Seq.{take-take}
 use borrow.Author.Tests.{leb-true, leb-false, lt-ltb, le-ltb, le-leb, lt-leb}
 use Rattle.gap.specs.Sequence.{part}
 use Rattle.gap.specs.Doc.{Doc}
@@ -17,7 +17,6 @@ use Rattle.gap.specs.Lines.{newline, newlines, sinceAfter, since}
 use Rattle.gap.specs.Layout.{ungap}
 use Rattle.gap.proofs.Laws.Tests.{decided}
 use Rattle.gap.proofs.Laws.Lines.{newlines-append, since-append}
-use Rattle.gap.proofs.Laws.LineScans.{counted-fit}
 use Rattle.editor.specs.Bytes.{quarter, quarterOf}
 use Rattle.window.specs.Words.{Lengths, Main, Quoted, Frame}
 use Rattle.window.specs.declared.Spot.{Spot}
@@ -89,14 +88,6 @@ module _ (l q : List ℕ) where
   pub quoted-column : since (l ++ (newline ∷ 62 ∷ q)) ≡ sinceAfter 1 q
   unfolding sinceAfter
   quoted-column = since-append 0 l (newline ∷ 62 ∷ q)
-
--- There are no more newlines than bytes; so in the front of a text, not more than the text has bytes.
-pub newlines-within : (s : List ℕ) → newlines s ≤ length s
-unfolding newlines
-newlines-within s = counted-fit s (newlines s) (length s) (record { within = omega arith; rest = rw drop-length (omega arith) })
-
-pub front-newlines : (k : ℕ) (s : List ℕ) → newlines (take k s) ≤ length s
-front-newlines k s = let h = newlines-within (take k s) in omega (arith, length-take k s)
 
 -- The quotation's quarter is the front of the side store.
 pub first-quarter : (size : ℕ) (side : List ℕ) → quarterOf size 0 side ≡ take size side

@@ -1,5 +1,5 @@
 -- Laws of the window: its size and cells, the policy, and which bytes it can show.
-use mathlib.Core.Path.{_≡_, refl, sym, ap, ap₂, _∙_}
+use mathlib.Core.Path.{_≡_, refl, sym, ap₂, _∙_}
 use mathlib.Core.Bool.{Bool, true, false, _&&_, cond}
 use mathlib.Core.List.{List, [], _∷_, _++_, map}
 use Prim.Native.Nat.{ℕ, zero, suc, _+_, _-_, _*_, _≤_, _<_}
@@ -15,7 +15,7 @@ use Rattle.gap.specs.Lines.{lines}
 use Rattle.gap.specs.Layout.{printable, allowed}
 use Rattle.gap.proofs.Laws.Tests.{and-left, and-right, and-both}
 use Rattle.gap.proofs.Laws.Lines.{lines-every}
-use Rattle.gap.proofs.Laws.Sequence.{every-both, every-left, every-right, length-counted}
+use Rattle.gap.proofs.Laws.Sequence.{every-both, every-left, every-right, length-counted, every-or, every-map, at-counted-map}
 use Rattle.window.specs.Words.{Mode, Main, Quoted, Frame}
 use Rattle.window.specs.Window.{virtualIn, rowOf, columnOf, cell, rowCells, joined, window, visible}
 use Rattle.window.specs.Window.{policyRow, policyColumn, policy}
@@ -46,13 +46,6 @@ length-row f ls i = length-map (counted (f .w) 1) (cell f ls i) ∙ length-count
 pub length-window : (f : Frame) (d : Doc) → length (window f d) ≡ f .h * f .w
 unfolding window
 length-window f d = let ls = lines (content d) in length-joined (rowCells f ls) (f .w) (length-row f ls) (f .h) 1
-
-at-counted-map : (g : ℕ → ℕ) (e n k i : ℕ) → i < n → getD (map g (counted n k)) i e ≡ g (k + i)
-unfolding counted
-at-counted-map g e zero k i h = absurd (omega arith)
-at-counted-map g e (suc n) k zero h = let q : k ≡ k + 0 = omega arith in ap g q
-at-counted-map g e (suc n) k (suc i) h =
-    let q : suc k + i ≡ k + suc i = omega arith in at-counted-map g e n (suc k) i (omega arith) ∙ ap g q
 
 -- Row i, column j of the window is the cell of that row and column.
 pub window-cell : (f : Frame) (d : Doc) (i j : ℕ) → 1 ≤ i → i ≤ f .h → 1 ≤ j → j ≤ f .w
@@ -121,17 +114,6 @@ policy-keeps f d e =
     λ i. record { r = row i; c = column i; h = f .h; w = f .w }
 
 module _ (test : ℕ → Bool) where
-  every-or : (s : List ℕ) (i e : ℕ) → every test s ≡ true → test e ≡ true → test (getD s i e) ≡ true
-  unfolding every
-  every-or [] i e all ok = ok
-  every-or (b ∷ s) zero e all ok = and-left (test b) _ all
-  every-or (b ∷ s) (suc i) e all ok = every-or s i e (and-right (test b) _ all) ok
-
-  every-map : (g : ℕ → ℕ) (s : List ℕ) → ((k : ℕ) → test (g k) ≡ true) → every test (map g s) ≡ true
-  unfolding every
-  every-map g [] all = refl
-  every-map g (k ∷ s) all = and-both (all k) (every-map g s all)
-
   every-joined : (row : ℕ → List ℕ) (s : List ℕ) → ((k : ℕ) → every test (row k) ≡ true) → every test (joined (map row s)) ≡ true
   unfolding every joined
   every-joined row [] all = refl

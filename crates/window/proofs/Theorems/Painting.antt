@@ -20,7 +20,7 @@ use Rattle.gap.proofs.Laws.Writers.{wrote-length, wrote-front, wrote-behind}
 use Rattle.editor.specs.Plain.{SIZE, TEXT}
 use Rattle.window.specs.Sequences.{painted}
 use Rattle.window.specs.Painting.{PaintOutcome, ROOM, paintable, badCell, unpainted, unlessBadCell, painting}
-use Rattle.window.proofs.Laws.Order.{Check, check, firstFailed, Passing, exactly, accepted-exactly}
+use Rattle.gap.proofs.Laws.Order.{Check, check, firstFailed, Passing, exactly, accepted-exactly}
 use Rattle.window.proofs.Theorems.Refusals.{none, none-fails}
 
 -- A run put at the front of a buffer.

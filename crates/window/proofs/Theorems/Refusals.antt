@@ -23,7 +23,7 @@ use Rattle.editor.specs.Keys.{soundKey, pressed, fits, bounded, key}
 use Rattle.editor.specs.Bytes.{quarter}
 use Rattle.window.specs.Words.{Session}
 use Rattle.window.specs.Core.{Lent, Called, T, tabled, isSession, held, unopened, openedText, badByte, unlessBad, opened, turnedDown, shown, finished, keyed}
-use Rattle.window.proofs.Laws.Order.{Check, check, firstFailed, Passing, exactly, accepted-exactly}
+use Rattle.gap.proofs.Laws.Order.{Check, check, firstFailed, Passing, exactly, accepted-exactly}
 
 -- ---- opening
 

@@ -7,7 +7,7 @@ use borrow.Author.Tests.{not-true, not-false}
 use Rattle.gap.specs.Strings.{bytes}
 use Rattle.gap.proofs.Laws.Tests.{cond-true, cond-false}
 use Rattle.bench.specs.Script.{headingOf}
-use Rattle.bench.proofs.Laws.ScriptLines.{next-inside}
+use Rattle.gap.proofs.Laws.LinePlaces.{next-inside}
 use Rattle.bench.proofs.Laws.Scripts.{afterColumns, afterStore, afterText}
 use Rattle.bench.proofs.Laws.Scripts.{Behind, behind-none, behind-broken, behind-read, behind-more}
 use Rattle.bench.proofs.script.heading_of.Statement.{statement}
@@ -89,7 +89,7 @@ slice-aggregate-header-at-2 : tie.Need-slice-aggregate-header-at-2
 slice-aggregate-header-at-2 c = search needs
 
 header-at-requires-2 : tie.Need-header-at-requires-2
-header-at-requires-2 c κs = second (c .before) .fits
+header-at-requires-2 c κs = (second (c .before) .fits, search needs)
 
 enum-known-columns : tie.Need-enum-known-columns
 enum-known-columns c = search needs
@@ -108,7 +108,7 @@ slice-aggregate-header-at-3 : tie.Need-slice-aggregate-header-at-3
 slice-aggregate-header-at-3 c = search needs
 
 header-at-requires-3 : tie.Need-header-at-requires-3
-header-at-requires-3 c κs = third (c .before) .fits
+header-at-requires-3 c κs = (third (c .before) .fits, search needs)
 
 enum-known-store : tie.Need-enum-known-store
 enum-known-store c = search needs
@@ -127,7 +127,7 @@ slice-aggregate-header-at-4 : tie.Need-slice-aggregate-header-at-4
 slice-aggregate-header-at-4 c = search needs
 
 header-at-requires-4 : tie.Need-header-at-requires-4
-header-at-requires-4 c κs = fourth (c .before) .fits
+header-at-requires-4 c κs = (fourth (c .before) .fits, search needs)
 
 enum-known-n : tie.Need-enum-known-n
 enum-known-n c = search needs

@@ -4,7 +4,7 @@ use Rattle.gap.specs.Strings.{bytes}
 use Rattle.bench.specs.Words.{Unnamed}
 use Rattle.bench.specs.Names.{keyNamed}
 use Rattle.bench.specs.Script.{keyOf}
-use Rattle.bench.proofs.Laws.Scripts.{word-fits, word-none, word-read}
+use Rattle.gap.proofs.Laws.Fields.{word-fits, word-none, word-read}
 use Rattle.bench.proofs.script.key_of.Statement.{statement}
 use Rattle.bench.proofs.script.key_of.Tie as tie
 

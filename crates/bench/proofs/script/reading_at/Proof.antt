@@ -1,6 +1,6 @@
 -- `script::reading_at` meets its contract: a line is there, it is lent, and its key decides.
 use borrow.Author.Needs.{needs}
-use Rattle.bench.proofs.Laws.ScriptLines.{line-starts, line-inside}
+use Rattle.gap.proofs.Laws.LinePlaces.{line-starts, line-inside}
 use Rattle.bench.proofs.Laws.Scripts.{reading-finished, reading-unknown, reading-pressed}
 use Rattle.bench.proofs.script.reading_at.Statement.{statement}
 use Rattle.bench.proofs.script.reading_at.Tie as tie

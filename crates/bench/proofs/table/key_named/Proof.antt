@@ -3,7 +3,7 @@ use mathlib.Core.Path.{sym, _∙_}
 use borrow.Author.Needs.{needs}
 use Rattle.gap.specs.Strings.{bytes}
 use Rattle.bench.specs.Names.{keyNamed}
-use Rattle.bench.proofs.Laws.Compared.{begins-fits}
+use Rattle.gap.proofs.Laws.Compared.{begins-fits}
 use Rattle.bench.proofs.Laws.KeyNames.{five-words, named-as, named-insert}
 use Rattle.bench.proofs.table.key_named.Statement.{statement}
 use Rattle.bench.proofs.table.key_named.Tie as tie

@@ -2,7 +2,7 @@
 use native.Mathlib.Omega.{arith}
 use borrow.Author.Needs.{needs}
 use Rattle.gap.proofs.Laws.Scans.{scan-start}
-use Rattle.editor.proofs.Laws.RowScans.{row-last}
+use Rattle.gap.proofs.Laws.RowScans.{row-last}
 use Rattle.editor.proofs.Laws.MatchScans.{block-fits, block-none}
 use Rattle.editor.proofs.finds.block_match.Statement.{statement}
 use Rattle.editor.proofs.finds.block_match.Tie as tie

@@ -4,8 +4,8 @@ use native.Mathlib.Omega.{arith}
 use lib.Seq.{length-take-le}
 use borrow.Author.Needs.{needs}
 use Rattle.gap.proofs.Laws.Scans.{scan-start}
-use Rattle.editor.proofs.Laws.RowScans.{row-found}
-use Rattle.editor.proofs.Laws.MatchTests.{begins-empty}
+use Rattle.gap.proofs.Laws.RowScans.{row-found}
+use Rattle.gap.proofs.Laws.Compared.{begins-empty}
 use Rattle.editor.proofs.Laws.MatchScans.{distance-left, left-reach, left-beyond}
 use Rattle.editor.proofs.finds.find_left.Statement.{statement}
 use Rattle.editor.proofs.finds.find_left.Tie as tie

@@ -2,7 +2,7 @@
 use mathlib.Core.Path.{_∙_}
 use native.Mathlib.Omega.{arith}
 use borrow.Author.Needs.{needs}
-use Rattle.editor.proofs.Laws.MatchTests.{begins-empty}
+use Rattle.gap.proofs.Laws.Compared.{begins-empty}
 use Rattle.editor.proofs.Laws.MatchScans.{distance-right, right-short, right-rest}
 use Rattle.editor.proofs.finds.find_right.Statement.{statement}
 use Rattle.editor.proofs.finds.find_right.Tie as tie

@@ -4,7 +4,7 @@ use native.Mathlib.Omega.{arith}
 use borrow.Author.Needs.{needs}
 use Rattle.gap.proofs.Laws.Scans.{Scan, scan-start}
 use Rattle.editor.specs.Searches.{matchAway}
-use Rattle.editor.proofs.Laws.RowScans.{row-none, row-found, row-last}
+use Rattle.gap.proofs.Laws.RowScans.{row-none, row-found, row-last}
 use Rattle.editor.proofs.Laws.MatchScans.{reach-part}
 use Rattle.editor.proofs.finds.nearest_match.Statement.{statement}
 use Rattle.editor.proofs.finds.nearest_match.Tie as tie

@@ -6,7 +6,7 @@ use borrow.Author.Needs.{needs}
 use Rattle.gap.specs.Sequence.{counted}
 use Rattle.gap.proofs.Laws.Scans.{Tested, tested-start}
 use Rattle.editor.specs.Searches.{likelyAt}
-use Rattle.editor.proofs.Laws.RowScans.{numbers-more, numbers-all}
+use Rattle.gap.proofs.Laws.RowScans.{numbers-more, numbers-all}
 use Rattle.editor.proofs.finds.none_likely.Statement.{statement}
 use Rattle.editor.proofs.finds.none_likely.Tie as tie
 

@@ -3,7 +3,7 @@ use mathlib.Core.Path.{sym, _∙_}
 use native.Mathlib.Omega.{arith}
 use lib.Seq.{length-take-le}
 use borrow.Author.Needs.{needs}
-use Rattle.editor.proofs.Laws.MatchTests.{begins-front, runs-same, runs-differ}
+use Rattle.gap.proofs.Laws.Compared.{begins-front, runs-same, runs-differ}
 use Rattle.editor.proofs.finds.runs_begin.Statement.{statement}
 use Rattle.editor.proofs.finds.runs_begin.Tie as tie
 

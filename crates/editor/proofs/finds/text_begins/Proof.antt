@@ -2,7 +2,7 @@
 use mathlib.Core.Path.{ap, _∙_}
 use borrow.Author.Needs.{needs}
 use Rattle.gap.specs.Sequence.{begins}
-use Rattle.editor.proofs.Laws.MatchTests.{text-right, text-across}
+use Rattle.gap.proofs.Laws.Layout.{text-right, text-across}
 use Rattle.editor.proofs.finds.text_begins.Statement.{statement}
 use Rattle.editor.proofs.finds.text_begins.Tie as tie
 

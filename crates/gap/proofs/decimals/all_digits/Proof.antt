@@ -1,4 +1,5 @@
 -- `decimals::all_digits` meets its contract: the flag tells whether the bytes passed are digits, and what is left decides.
+use mathlib.Core.Path.{refl}
 use Prim.Native.Nat.{_-_}
 use native.Mathlib.Omega.{arith}
 use lib.ListN.{length}
@@ -26,7 +27,7 @@ loop-less : tie.Need-loop-less Inv-loop μ-loop
 loop-less c = omega arith
 
 loop-again : tie.Need-loop-again Inv-loop μ-loop
-loop-again c = tested-more digit _ _ _ (c .before .before .loop .inv) (c .before .loop-test .taken)
+loop-again c = tested-more digit _ _ _ (c .before .before .loop .inv) (c .before .loop-test .taken) refl
 
 returns : tie.Need-returns Inv-loop μ-loop
 returns c = tested-all digit _ _ _ (c .before .loop .inv) (c .loop-test .left)

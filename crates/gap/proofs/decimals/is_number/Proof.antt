@@ -5,10 +5,10 @@ use Rattle.gap.proofs.decimals.is_number.Statement.{statement}
 use Rattle.gap.proofs.decimals.is_number.Tie as tie
 
 returns : tie.Need-returns
-returns c = number-short _ (c .if1 .taken)
+returns c = number-short _ _ (c .if1 .taken)
 
 returns-2 : tie.Need-returns-2
-returns-2 c = number-long _ (c .if2 .taken)
+returns-2 c = number-long _ _ (c .if2 .taken)
 
 all-digits-requires : tie.Need-all-digits-requires
 all-digits-requires c κs = search needs
@@ -17,7 +17,7 @@ shared-slice-read-result : tie.Need-shared-slice-read-result
 shared-slice-read-result c = search needs
 
 returns-3 : tie.Need-returns-3
-returns-3 c = number-tests _ (c .before .before .before .if1 .left) (c .before .before .if2 .left) (c .before .all-digits .ensures)
+returns-3 c = number-tests _ _ (c .before .before .before .if1 .left) (c .before .before .if2 .left) (c .before .all-digits .ensures)
 
 pub is-number-spec : {M : Type 1} → statement M
 is-number-spec =

@@ -1,5 +1,6 @@
 -- `number_of` reads a number where the test of the bytes says that they write one.
 use mathlib.Core.Path.{sym, ap, _∙_}
+use native.Mathlib.Omega.{arith}
 use borrow.Author.Needs.{needs}
 use Rattle.gap.specs.declared.Number.the-variants.{Read}
 use Rattle.gap.proofs.Laws.Decimals.{number-is, number-read, number-unread}
@@ -11,14 +12,15 @@ is-number-requires c κs = search needs
 
 value-of-requires : tie.Need-value-of-requires
 value-of-requires c κs =
-    let is = number-is _ (sym (c .before .is-number .ensures) ∙ c .if1 .taken) in
-    (is .few, is .digits)
+    let is = number-is _ _ (sym (c .before .is-number .ensures) ∙ c .if1 .taken) in
+    let start : tie.Start = search in
+    (omega (arith, is .few, start .pre), is .digits)
 
 returns : tie.Need-returns
-returns c = ap Read (c .value-of .ensures) ∙ number-read _ (sym (c .before .before .is-number .ensures) ∙ c .before .if1 .taken)
+returns c = ap Read (c .value-of .ensures) ∙ number-read _ _ (sym (c .before .before .is-number .ensures) ∙ c .before .if1 .taken)
 
 returns-2 : tie.Need-returns-2
-returns-2 c = number-unread _ (sym (c .before .is-number .ensures) ∙ c .if1 .left)
+returns-2 c = number-unread _ _ (sym (c .before .is-number .ensures) ∙ c .if1 .left)
 
 pub number-of-spec : {M : Type 1} → statement M
 number-of-spec = tie.close (tie.spec is-number-requires value-of-requires returns returns-2)

@@ -2,7 +2,7 @@
 use Prim.Native.Nat.{_-_}
 use native.Mathlib.Omega.{arith}
 use lib.ListN.{length}
-use Rattle.gap.proofs.Laws.Decimals.{Valued, valued-start, valued-digit, valued-more, valued-small, valued-all}
+use Rattle.gap.proofs.Laws.Decimals.{Valued, valued-start, valued-digit, valued-more, valued-fits, valued-all}
 use Rattle.gap.proofs.decimals.value_of.Statement.{statement}
 use Rattle.gap.proofs.decimals.value_of.Tie as tie
 
@@ -19,7 +19,7 @@ shared-slice-read-b : tie.Need-shared-slice-read-b Inv-loop μ-loop
 shared-slice-read-b c = omega arith
 
 mul-n : tie.Need-mul-n Inv-loop μ-loop
-mul-n c = omega (arith, valued-small (c .before .before .loop .inv) (c .before .loop-test .taken))
+mul-n c = omega (arith, valued-fits (c .before .before .loop .inv) (c .before .loop-test .taken))
 
 sub-n : tie.Need-sub-n Inv-loop μ-loop
 sub-n c = omega (arith, valued-digit (c .before .before .loop .inv) (c .before .loop-test .taken))
@@ -28,7 +28,7 @@ cast-n : tie.Need-cast-n Inv-loop μ-loop
 cast-n c = omega (arith, valued-digit (c .before .before .loop .inv) (c .before .loop-test .taken))
 
 add-n : tie.Need-add-n Inv-loop μ-loop
-add-n c = omega (arith, valued-small (c .before .before .loop .inv) (c .before .loop-test .taken))
+add-n c = omega (arith, valued-fits (c .before .before .loop .inv) (c .before .loop-test .taken))
 
 add-i : tie.Need-add-i Inv-loop μ-loop
 add-i c = omega arith

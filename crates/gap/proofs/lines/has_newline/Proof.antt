@@ -1,5 +1,5 @@
 -- `lines::has_newline` meets its contract: the flag tells whether the bytes passed are no newlines, and what is left decides.
-use mathlib.Core.Path.{ap}
+use mathlib.Core.Path.{refl, ap}
 use mathlib.Core.Bool.{not}
 use Prim.Native.Nat.{_-_}
 use native.Mathlib.Omega.{arith}
@@ -29,7 +29,7 @@ loop-less : tie.Need-loop-less Inv-loop μ-loop
 loop-less c = omega arith
 
 loop-again : tie.Need-loop-again Inv-loop μ-loop
-loop-again c = tested-more _ _ _ _ (c .before .before .loop .inv) (c .before .loop-test .taken)
+loop-again c = tested-more _ _ _ _ (c .before .before .loop .inv) (c .before .loop-test .taken) refl
 
 returns : tie.Need-returns Inv-loop μ-loop
 returns c = ap not (tested-all _ _ _ _ (c .before .loop .inv) (c .loop-test .left))

@@ -2,6 +2,7 @@
 use Prim.Native.Nat.{_-_}
 use native.Mathlib.Omega.{arith}
 use lib.ListN.{length}
+use borrow.Author.Needs.{needs}
 use Rattle.gap.specs.Layout.{printable}
 use Rattle.gap.proofs.Laws.Scans.{Tested, tested-start, tested-more, tested-all}
 use Rattle.gap.proofs.sound.all_printable.Statement.{statement}
@@ -16,8 +17,11 @@ abbrev μ-loop : tie.MeasureT-loop
 loop-holds : tie.Need-loop-holds Inv-loop μ-loop
 loop-holds c = tested-start printable _
 
-shared-slice-read-b : tie.Need-shared-slice-read-b Inv-loop μ-loop
-shared-slice-read-b c = omega arith
+shared-slice-read-is-printable : tie.Need-shared-slice-read-is-printable Inv-loop μ-loop
+shared-slice-read-is-printable c = omega arith
+
+is-printable-requires : tie.Need-is-printable-requires Inv-loop μ-loop
+is-printable-requires c κs = search needs
 
 add-i : tie.Need-add-i Inv-loop μ-loop
 add-i c = omega arith
@@ -26,7 +30,9 @@ loop-less : tie.Need-loop-less Inv-loop μ-loop
 loop-less c = omega arith
 
 loop-again : tie.Need-loop-again Inv-loop μ-loop
-loop-again c = tested-more printable _ _ _ (c .before .before .loop .inv) (c .before .loop-test .taken)
+loop-again c =
+    let inside : tie.In-loop Inv-loop μ-loop = search in
+    tested-more printable _ _ _ (inside .before .loop .inv) (inside .loop-test .taken) (c .is-printable .ensures)
 
 returns : tie.Need-returns Inv-loop μ-loop
 returns c = tested-all printable _ _ _ (c .before .loop .inv) (c .loop-test .left)
@@ -34,4 +40,4 @@ returns c = tested-all printable _ _ _ (c .before .loop .inv) (c .loop-test .lef
 pub all-printable-spec : {M : Type 1} → statement M
 all-printable-spec =
     tie.close
-    (tie.spec Inv-loop μ-loop loop-holds shared-slice-read-b add-i loop-less loop-again returns)
+    (tie.spec Inv-loop μ-loop loop-holds shared-slice-read-is-printable is-printable-requires add-i loop-less loop-again returns)

@@ -1,27 +1,39 @@
--- `sound::bad_byte` meets its contract: the bytes before place i are allowed, so that what is left decides.
-use mathlib.Core.Bool.{not}
+-- `sound::bad_byte` meets its contract: where all bytes are allowed there is none, and else those before place i are, so that what is left
+-- decides.
 use Prim.Native.Nat.{_-_}
 use native.Mathlib.Omega.{arith}
-use lib.ListN.{length, getD}
+use lib.ListN.{length}
+use borrow.Author.Needs.{needs}
 use Rattle.gap.specs.Layout.{allowed}
-use Rattle.gap.proofs.Laws.Scans.{Scan, scan-start, scan-found, scan-more, scan-none}
+use Rattle.gap.proofs.Laws.Scans.{PassedUpTo, passed-start, passed-found, passed-more, passed-all, every-nowhere}
 use Rattle.gap.proofs.sound.bad_byte.Statement.{statement}
 use Rattle.gap.proofs.sound.bad_byte.Tie as tie
 
 abbrev Inv-loop : tie.InvT-loop
-Inv-loop s i₀ i = Scan (λ j. not (allowed (getD s j 0))) (length s) 0 i
+Inv-loop s i₀ i = PassedUpTo allowed s i
 
 abbrev μ-loop : tie.MeasureT-loop
 μ-loop s i₀ i = length s - i
 
-loop-holds : tie.Need-loop-holds Inv-loop μ-loop
-loop-holds c = scan-start _ _ _
-
-shared-slice-read-b : tie.Need-shared-slice-read-b Inv-loop μ-loop
-shared-slice-read-b c = omega arith
+all-allowed-requires : tie.Need-all-allowed-requires Inv-loop μ-loop
+all-allowed-requires c κs = search needs
 
 returns : tie.Need-returns Inv-loop μ-loop
-returns c = scan-found _ _ _ _ (c .before .before .before .loop .inv) (omega arith) (c .if1 .taken)
+returns c = every-nowhere allowed _ (c .before .all-allowed .ensures) (c .if1 .taken)
+
+loop-holds : tie.Need-loop-holds Inv-loop μ-loop
+loop-holds c = passed-start allowed _
+
+shared-slice-read-is-allowed : tie.Need-shared-slice-read-is-allowed Inv-loop μ-loop
+shared-slice-read-is-allowed c = omega arith
+
+is-allowed-requires : tie.Need-is-allowed-requires Inv-loop μ-loop
+is-allowed-requires c κs = search needs
+
+returns-2 : tie.Need-returns-2 Inv-loop μ-loop
+returns-2 c =
+    let tested : tie.After-is-allowed Inv-loop μ-loop = search in let inside : tie.In-loop Inv-loop μ-loop = search in
+    passed-found allowed _ _ (inside .before .loop .inv) (inside .loop-test .taken) (tested .is-allowed .ensures) (c .if2 .taken)
 
 add-i : tie.Need-add-i Inv-loop μ-loop
 add-i c = omega arith
@@ -30,10 +42,12 @@ loop-less : tie.Need-loop-less Inv-loop μ-loop
 loop-less c = omega arith
 
 loop-again : tie.Need-loop-again Inv-loop μ-loop
-loop-again c = scan-more _ _ _ _ (c .before .before .before .loop .inv) (omega arith) (c .if1 .left)
+loop-again c =
+    let tested : tie.After-is-allowed Inv-loop μ-loop = search in let inside : tie.In-loop Inv-loop μ-loop = search in
+    passed-more allowed _ _ (inside .before .loop .inv) (inside .loop-test .taken) (tested .is-allowed .ensures) (c .if2 .left)
 
-returns-2 : tie.Need-returns-2 Inv-loop μ-loop
-returns-2 c = scan-none _ _ _ _ (c .before .loop .inv) (omega arith)
+returns-3 : tie.Need-returns-3 Inv-loop μ-loop
+returns-3 c = passed-all allowed _ _ (c .before .loop .inv) (c .loop-test .left)
 
 pub bad-byte-spec : {M : Type 1} → statement M
 bad-byte-spec =
@@ -41,10 +55,13 @@ bad-byte-spec =
     (tie.spec
     Inv-loop
     μ-loop
-    loop-holds
-    shared-slice-read-b
+    all-allowed-requires
     returns
+    loop-holds
+    shared-slice-read-is-allowed
+    is-allowed-requires
+    returns-2
     add-i
     loop-less
     loop-again
-    returns-2)
+    returns-3)

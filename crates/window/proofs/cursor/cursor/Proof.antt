@@ -2,7 +2,8 @@
 use native.Mathlib.Omega.{arith}
 use lib.ListN.{length-take}
 use borrow.Author.Needs.{needs}
-use Rattle.window.proofs.Laws.Spots.{main-spot, quoted-spot, front-newlines}
+use Rattle.gap.proofs.Laws.Lines.{front-newlines}
+use Rattle.window.proofs.Laws.Spots.{main-spot, quoted-spot}
 use Rattle.window.proofs.cursor.cursor.Statement.{statement}
 use Rattle.window.proofs.cursor.cursor.Tie as tie
 

@@ -4,7 +4,7 @@ use native.Mathlib.Omega.{arith}
 use borrow.Author.Needs.{needs}
 use borrow.Author.Tests.{le-ltb}
 use Rattle.window.specs.Painter.{sheet}
-use Rattle.window.proofs.Laws.Spots.{newlines-within}
+use Rattle.gap.proofs.Laws.Lines.{newlines-fit}
 use Rattle.window.proofs.Laws.Pieces.{fed-above, FirstLine, fed-lines, first-line, fed-asked, fed-painted}
 use Rattle.window.proofs.painter.feed.Statement.{statement}
 use Rattle.window.proofs.painter.feed.Tie as tie
@@ -24,7 +24,7 @@ count-newlines-requires c κs = search needs
 add-below : tie.Need-add-below
 add-below c =
     let start = c .before .before .before .before in
-    omega (arith, c .count-newlines .ensures, newlines-within (start .args .t .now), start .pre .pen)
+    omega (arith, c .count-newlines .ensures, newlines-fit (start .args .t .now), start .pre .pen)
 
 since-newline-requires : tie.Need-since-newline-requires
 since-newline-requires c κs = omega (arith, c .before .before .before .before .before .pre .pen)

@@ -1,11 +1,11 @@
--- `print::put_entry` writes an entry: its word, its number and a newline, one behind the other; a number has at most 20 digits.
+-- `fields::put_entry` writes an entry: its word, its number and a newline, one behind the other; a number has at most 20 digits.
 use native.Mathlib.Omega.{arith}
 use borrow.Author.Needs.{needs}
 use Rattle.gap.proofs.Laws.Writers.{then}
 use Rattle.gap.proofs.Laws.Decimals.{decimal-short}
-use Rattle.bench.specs.Print.{entry}
-use Rattle.bench.proofs.print.put_entry.Statement.{statement}
-use Rattle.bench.proofs.print.put_entry.Tie as tie
+use Rattle.gap.specs.Fields.{entry}
+use Rattle.gap.proofs.fields.put_entry.Statement.{statement}
+use Rattle.gap.proofs.fields.put_entry.Tie as tie
 
 put-requires : tie.Need-put-requires
 put-requires c κs = search needs

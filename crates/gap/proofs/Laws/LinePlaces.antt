@@ -1,4 +1,4 @@
--- Laws of the lines of a script: where a line ends, where the next one starts, and how lines are counted.
+-- Laws of lines by their places: where a line ends, where the next one starts, and how lines are counted.
 use mathlib.Core.Path.{_≡_, refl, sym, ap, _∙_}
 use mathlib.Core.Bool.{Bool, true, false, cond}
 use mathlib.Core.List.{List, [], _∷_}
@@ -10,14 +10,14 @@ use lib.ListN.{length, take, drop, getD, length-take, length-drop, drop-of-lengt
 use lib.Seq.{drop-cons}
 use borrow.Author.Tests.{ltb-true, ltb-false, lt-ltb, le-ltb, eq-eqb, ne-eqb}
 use borrow.Rule.Slice.PartMut.{midOf}
 use Rattle.gap.specs.Lines.{newline, newlines}
 use Rattle.gap.proofs.Laws.Tests.{cond-true, cond-false}
-use Rattle.gap.proofs.Laws.LineScans.{newlines-fit}
-use Rattle.bench.specs.Script.{lineOf, lineAt, endAt, nextAt, lineNumber}
+use Rattle.gap.proofs.Laws.Lines.{front-newlines}
+use Rattle.gap.specs.Fields.{lineOf, lineAt, endAt, nextAt, lineNumber}
 
 -- ---- One line
 
--- A line is the front of what is left of the input.
+-- A line is the front of what is left.
 front : (is : Bool) (b : ℕ) (line s : List ℕ) → take (length line) s ≡ line
     → take (length (cond is [] (b ∷ line))) (b ∷ s) ≡ cond is [] (b ∷ line)
 front true b line s e = refl
@@ -31,7 +31,7 @@ line-front (b ∷ s) = front (eqb b newline) b (lineOf s) s (line-front s)
 line-fits : (s : List ℕ) → length (lineOf s) ≤ length s
 line-fits s = omega (arith, ap length (line-front s), length-take (length (lineOf s)) s)
 
--- The next line starts within the input, and further on where there is a line.
+-- The next line starts within the bytes or at their end, and further on where there is a line.
 next-bounds : (t : Bool) (at end n : ℕ) → ltb end n ≡ t → at ≤ end → end ≤ n
     → (cond t (suc end) end ≤ n) × (at < n → at < cond t (suc end) end)
 next-bounds true at end n e after fits = (omega (arith, ltb-true end n e), λ more. omega arith)
@@ -114,10 +114,10 @@ module _ (s : List ℕ) (at : ℕ) where
 
 -- ---- Line numbers
 
--- The newlines before a line are no more than the input's bytes, and one more is the line's number.
+-- The newlines before a line are no more than there are bytes, and one more is the line's number.
 module _ (s : List ℕ) (at : ℕ) {n : ℕ} (counted : n ≡ newlines (take at s)) where
   pub lines-fit : n ≤ length s
-  lines-fit = omega (arith, newlines-fit (take at s), length-take at s)
+  lines-fit = omega (arith, front-newlines at s)
 
   pub line-numbered : n + 1 ≡ lineNumber s at
   unfolding lineNumber

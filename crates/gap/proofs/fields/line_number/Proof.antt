@@ -1,11 +1,11 @@
--- `script::line_number` meets its contract: the newlines before the line are counted, and there are no more of them than bytes.
+-- `fields::line_number` meets its contract: the newlines before the line are counted, and there are no more of them than bytes.
 use mathlib.Core.Path.{sym}
 use native.Mathlib.Omega.{arith}
 use lib.Seq.{length-take-le}
 use borrow.Author.Needs.{needs}
-use Rattle.bench.proofs.Laws.ScriptLines.{lines-fit, line-numbered}
-use Rattle.bench.proofs.script.line_number.Statement.{statement}
-use Rattle.bench.proofs.script.line_number.Tie as tie
+use Rattle.gap.proofs.Laws.LinePlaces.{lines-fit, line-numbered}
+use Rattle.gap.proofs.fields.line_number.Statement.{statement}
+use Rattle.gap.proofs.fields.line_number.Tie as tie
 
 slice-aggregate-count-newlines : tie.Need-slice-aggregate-count-newlines
 slice-aggregate-count-newlines c = sym (length-take-le _ _ (c .before .before .pre))

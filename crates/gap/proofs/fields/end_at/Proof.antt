@@ -1,10 +1,10 @@
--- `script::end_at` meets its contract: no newline stands before the place reached, so that the byte there decides.
+-- `fields::end_at` meets its contract: no newline stands before the place reached, so that the byte there decides.
 use Prim.Native.Nat.{_-_}
 use lib.ListN.{length}
 use borrow.Author.Needs.{needs}
-use Rattle.bench.proofs.Laws.ScriptLines.{Unended, unended-start, unended-found, unended-more, unended-all}
-use Rattle.bench.proofs.script.end_at.Statement.{statement}
-use Rattle.bench.proofs.script.end_at.Tie as tie
+use Rattle.gap.proofs.Laws.LinePlaces.{Unended, unended-start, unended-found, unended-more, unended-all}
+use Rattle.gap.proofs.fields.end_at.Statement.{statement}
+use Rattle.gap.proofs.fields.end_at.Tie as tie
 
 abbrev Inv-loop : tie.InvT-loop
 Inv-loop s at end₀ end = Unended s at end

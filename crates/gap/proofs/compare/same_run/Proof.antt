@@ -1,10 +1,10 @@
--- `editor::finds::same_run` meets its contract: the flag tells whether the bytes passed agree, and what is left decides.
+-- `compare::same_run` meets its contract: the flag tells whether the bytes passed agree, and what is left decides.
 use Prim.Native.Nat.{_-_}
 use lib.ListN.{length}
 use borrow.Author.Needs.{needs}
-use Rattle.editor.proofs.Laws.MatchTests.{Same, same-start, same-more, same-all}
-use Rattle.editor.proofs.finds.same_run.Statement.{statement}
-use Rattle.editor.proofs.finds.same_run.Tie as tie
+use Rattle.gap.proofs.Laws.Compared.{Same, same-start, same-more, same-all}
+use Rattle.gap.proofs.compare.same_run.Statement.{statement}
+use Rattle.gap.proofs.compare.same_run.Tie as tie
 
 abbrev Inv-loop : tie.InvT-loop
 Inv-loop a b same₀ i₀ same i = Same a b same i

@@ -1,15 +1,15 @@
--- `script::header_at` meets its contract: the line is lent where its newline is there.
+-- `fields::header_at` meets its contract: the line is lent where its newline is there.
 use borrow.Author.Needs.{needs}
-use Rattle.bench.proofs.Laws.ScriptLines.{line-starts}
-use Rattle.bench.proofs.Laws.Scripts.{header-cut, header-read}
-use Rattle.bench.proofs.script.header_at.Statement.{statement}
-use Rattle.bench.proofs.script.header_at.Tie as tie
+use Rattle.gap.proofs.Laws.LinePlaces.{line-starts}
+use Rattle.gap.proofs.Laws.Fields.{header-cut, header-read}
+use Rattle.gap.proofs.fields.header_at.Statement.{statement}
+use Rattle.gap.proofs.fields.header_at.Tie as tie
 
 end-at-requires : tie.Need-end-at-requires
 end-at-requires c κs = search needs
 
 returns : tie.Need-returns
-returns c = header-cut _ _ (c .before .end-at .ensures) _ (c .if1 .taken)
+returns c = header-cut _ _ (c .before .end-at .ensures) _ _ (c .if1 .taken)
 
 sub-field-of : tie.Need-sub-field-of
 sub-field-of c = line-starts _ _ (c .before .end-at .ensures)
@@ -24,7 +24,7 @@ field-of-requires : tie.Need-field-of-requires
 field-of-requires c κs = search needs
 
 returns-2 : tie.Need-returns-2
-returns-2 c = header-read _ _ (c .before .before .before .end-at .ensures) _ (c .before .before .if1 .left) (c .field-of .ensures)
+returns-2 c = header-read _ _ (c .before .before .before .end-at .ensures) _ _ (c .before .before .if1 .left) (c .field-of .ensures)
 
 pub header-at-spec : {M : Type 1} → statement M
 header-at-spec =

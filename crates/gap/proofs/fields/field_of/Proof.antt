@@ -1,18 +1,18 @@
--- `script::field_of` meets its contract: a line that begins with the word is as long, and what stands behind the word is lent.
+-- `fields::field_of` meets its contract: a line that begins with the word is as long, and what stands behind the word is lent.
 use borrow.Author.Needs.{needs}
 use Rattle.gap.specs.Decimal.{numberOf}
-use Rattle.bench.specs.Words.{Unreadable}
-use Rattle.bench.specs.Script.{fieldOf}
-use Rattle.bench.proofs.Laws.Scripts.{word-fits, word-none, word-read}
-use Rattle.bench.proofs.script.field_of.Statement.{statement}
-use Rattle.bench.proofs.script.field_of.Tie as tie
+use Rattle.gap.specs.declared.Number.the-variants.{Unreadable}
+use Rattle.gap.specs.Fields.{fieldOf}
+use Rattle.gap.proofs.Laws.Fields.{word-fits, word-none, word-read}
+use Rattle.gap.proofs.fields.field_of.Statement.{statement}
+use Rattle.gap.proofs.fields.field_of.Tie as tie
 
 begins-with-requires : tie.Need-begins-with-requires
 begins-with-requires c κs = search needs
 
 returns : tie.Need-returns
 unfolding fieldOf
-returns c = word-none _ _ (c .before .begins-with .ensures) numberOf Unreadable (c .if1 .taken)
+returns c = word-none _ _ (c .before .begins-with .ensures) (numberOf _) Unreadable (c .if1 .taken)
 
 sub-number-of : tie.Need-sub-number-of
 sub-number-of c = word-fits _ _ (c .before .begins-with .ensures) (c .if1 .left)
@@ -30,7 +30,7 @@ returns-2 : tie.Need-returns-2
 unfolding fieldOf
 returns-2 c =
     let there = c .before .before in
-    word-read _ _ (there .before .begins-with .ensures) numberOf Unreadable (there .if1 .left) (c .number-of .ensures)
+    word-read _ _ (there .before .begins-with .ensures) (numberOf _) Unreadable (there .if1 .left) (c .number-of .ensures)
 
 pub field-of-spec : {M : Type 1} → statement M
 field-of-spec =

@@ -1,8 +1,8 @@
--- `editor::finds::run_begins` meets its contract: as many bytes as the pattern has are compared with it, if there are as many.
+-- `compare::run_begins` meets its contract: as many bytes as the pattern has are compared with it, if there are as many.
 use borrow.Author.Needs.{needs}
-use Rattle.editor.proofs.Laws.MatchTests.{run-short, run-same}
-use Rattle.editor.proofs.finds.run_begins.Statement.{statement}
-use Rattle.editor.proofs.finds.run_begins.Tie as tie
+use Rattle.gap.proofs.Laws.Compared.{run-short, run-same}
+use Rattle.gap.proofs.compare.run_begins.Statement.{statement}
+use Rattle.gap.proofs.compare.run_begins.Tie as tie
 
 sub-if1 : tie.Need-sub-if1
 sub-if1 c = search needs

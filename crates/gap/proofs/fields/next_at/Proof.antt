@@ -1,8 +1,8 @@
--- `script::next_at` meets its contract: the next line starts behind the newline, if there is one.
+-- `fields::next_at` meets its contract: the next line starts behind the newline, if there is one.
 use borrow.Author.Needs.{needs}
-use Rattle.bench.proofs.Laws.ScriptLines.{next-behind, next-none}
-use Rattle.bench.proofs.script.next_at.Statement.{statement}
-use Rattle.bench.proofs.script.next_at.Tie as tie
+use Rattle.gap.proofs.Laws.LinePlaces.{next-behind, next-none}
+use Rattle.gap.proofs.fields.next_at.Statement.{statement}
+use Rattle.gap.proofs.fields.next_at.Tie as tie
 
 end-at-requires : tie.Need-end-at-requires
 end-at-requires c κs = search needs

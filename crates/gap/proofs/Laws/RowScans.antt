@@ -1,23 +1,23 @@
 -- Laws of numbers in a row: tested one after the other, and searched for the nearest that passes, row by row.
-use mathlib.Core.Path.{_≡_, refl, sym, ap, ap₂, _∙_}
+use mathlib.Core.Path.{_≡_, refl, sym, ap, _∙_}
 use mathlib.Core.Bool.{Bool, true, false, _&&_, cond}
 use Prim.Native.Nat.{ℕ, zero, suc, _+_, _-_, _≤_, _<_}
 use native.Mathlib.Omega.{arith}
 use lib.ListN.{length}
 use Rattle.gap.specs.declared.Search.{Search}
 use Rattle.gap.specs.declared.Search.the-variants.{Reached, Nowhere}
 use Rattle.gap.specs.Sequence.{every, counted}
 use Rattle.gap.specs.Nearest.{nearest}
 use Rattle.gap.proofs.Laws.Sequence.{every-at, length-counted, at-counted}
 use Rattle.gap.proofs.Laws.Nearest.{none-nowhere}
 use Rattle.gap.proofs.Laws.Scans.{Tested, tested-more, tested-all, Scan}
 
 -- The flag tells whether the first i numbers pass the test, and those from there on decide the rest.
 module _ (test : ℕ → Bool) (n k : ℕ) {ok : Bool} {i : ℕ} (so-far : Tested test (counted n k) ok i) where
   pub numbers-more : i < n → {next : Bool} → next ≡ test (k + i) → Tested test (counted n k) (ok && next) (i + 1)
   numbers-more more e =
       let inside : i < length (counted n k) = rw length-counted more in
-      rw (e, ← at-counted n k i more) (tested-more test _ _ _ so-far inside)
+      tested-more test _ _ _ so-far inside (e ∙ ap test (sym (at-counted n k i more)))
 
   pub numbers-all : n ≤ i → ok ≡ every test (counted n k)
   numbers-all end = tested-all test _ _ _ so-far (rw length-counted end)
@@ -25,14 +25,6 @@ module _ (test : ℕ → Bool) (n k : ℕ) {ok : Bool} {i : ℕ} (so-far : Teste
 -- What every number passes, each one passes.
 pub numbers-at : (test : ℕ → Bool) (n k i : ℕ) → every test (counted n k) ≡ true → i < n → test (k + i) ≡ true
 numbers-at test n k i all inside = rw (← at-counted n k i inside) (every-at test (counted n k) i all (rw length-counted inside))
-
--- Tests that agree on the numbers looked at find the same number.
-pub nearest-same : {f g : ℕ → Bool} (n k : ℕ) → ((j : ℕ) → k ≤ j → j < k + n → f j ≡ g j) → nearest f n k ≡ nearest g n k
-unfolding nearest
-nearest-same zero k same = refl
-nearest-same (suc n) k same =
-    ap₂ (λ passes further. cond passes (Reached k) further) (same k (omega arith) (omega arith))
-    (nearest-same n (suc k) (λ j low high. same j (omega arith) (omega arith)))
 
 -- The first of two rows of numbers decides if one of its numbers passes; else the second does.
 abbrev orElse : Search → Search → Search
