@@ -1,7 +1,7 @@
-/* Opens a small deck, presses some keys and prints what each call answers and the bytes that a terminal is sent then. */
+/* Opens the deck in a file and presses some keys. Prints what each call answers and the bytes that a terminal is sent then, and at the
+ * end the document. */
 #include <stdio.h>
 #include <stdlib.h>
-#include <string.h>
 
 #include "chidukwore.h"
 
@@ -9,6 +9,20 @@ enum { T = 16, ROWS = 2, COLUMNS = 4 };
 static uint8_t text[T], recall[T], side[1024], screen[ROWS * COLUMNS];
 static uint8_t buffer[ROWS * (COLUMNS + 7) + 9];
 static struct chidukwore_record record;
+
+/* A file, to the front of the text store. One that is longer than T bytes is given the length T + 1: opening refuses that with LONG. */
+static size_t load(FILE *file)
+{
+    size_t n = fread(text, 1, T, file);
+    return n + (fgetc(file) != EOF);
+}
+
+/* The document: what is left of the cursor, from the front of the store, then what is right of it, from the back. */
+static void save(FILE *file)
+{
+    fwrite(text, 1, record.l, file);
+    fwrite(text + T - record.r, 1, record.r, file);
+}
 
 /* The bytes for a terminal, with ESC as \e. */
 static void send(struct chidukwore_answer a)
@@ -25,16 +39,17 @@ static void send(struct chidukwore_answer a)
     printf("\n");
 }
 
-static void print(const char *what, struct chidukwore_reply reply)
+static size_t print(const char *what, struct chidukwore_reply reply)
 {
     struct chidukwore_answer a = reply.answer;
     record = reply.record;
     if (a.code != CHIDUKWORE_OK) {
         printf("%s: refused %zu\n", what, a.code);
-        return;
+        return a.code;
     }
     printf("%s: steps %zu, bell %zu, rows %zu to %zu, cursor %zu %zu\n", what, a.steps, a.bell, a.first, a.last, a.row, a.column);
     send(a);
+    return a.code;
 }
 
 static void key(const char *what, size_t kind, size_t a, size_t b, size_t c)
@@ -42,11 +57,20 @@ static void key(const char *what, size_t kind, size_t a, size_t b, size_t c)
     print(what, chidukwore_key(record, kind, a, b, c, text, T, recall, T, side, sizeof side, screen, sizeof screen));
 }
 
-int main(void)
+int main(int argc, char **argv)
 {
-    const char *deck = "a=1\nbb=22\nc";
-    memcpy(text, deck, strlen(deck));
-    print("open", chidukwore_open(strlen(deck), ROWS, COLUMNS, text, T, recall, T, side, sizeof side, screen, sizeof screen));
+    FILE *deck = argc == 2 ? fopen(argv[1], "rb") : NULL;
+    if (deck == NULL) {
+        fprintf(stderr, "usage: show DECK, a file\n");
+        return EXIT_FAILURE;
+    }
+    size_t n = load(deck);
+    if (ferror(deck)) {
+        perror(argv[1]);
+        return EXIT_FAILURE;
+    }
+    if (print("open", chidukwore_open(n, ROWS, COLUMNS, text, T, recall, T, side, sizeof side, screen, sizeof screen)) != CHIDUKWORE_OK)
+        return EXIT_FAILURE;
     key("left to a line ending", CHIDUKWORE_FUNCTION, CHIDUKWORE_MOVE, CHIDUKWORE_LEFT, CHIDUKWORE_LINE_ENDING);
     key("right to a line ending", CHIDUKWORE_FUNCTION, CHIDUKWORE_MOVE, CHIDUKWORE_RIGHT, CHIDUKWORE_LINE_ENDING);
     key("quote", CHIDUKWORE_QUOTE, 0, 0, 0);
@@ -56,6 +80,9 @@ int main(void)
     key("delete right to a line ending", CHIDUKWORE_FUNCTION, CHIDUKWORE_DELETE, CHIDUKWORE_RIGHT, CHIDUKWORE_LINE_ENDING);
     key("recall", CHIDUKWORE_RECALL, 0, 0, 0);
     key("right", CHIDUKWORE_FUNCTION, CHIDUKWORE_MOVE, CHIDUKWORE_RIGHT, CHIDUKWORE_CHARACTER);
+    key("insert 5", CHIDUKWORE_INSERT, '5', 0, 0);
     key("no key", 99, 0, 0, 0);
+    printf("document:\n");
+    save(stdout);
     return 0;
 }

@@ -1,5 +1,6 @@
 /*
- * Chidukwore: a proved deck editor core for bench terminals. This header is all that a C program needs.
+ * Chidukwore: a proved deck editor core for bench terminals. A C program needs this header and libwindow.a, which is for Linux on x86-64
+ * and calls memcpy, memmove and memset, and nothing else.
  *
  * The core keeps nothing between calls. The host owns four stores of bytes and a record; each call is lent the stores, is handed the
  * record by value and hands one back. Between calls the host hands record and stores on untouched: it reads them, and writes none of
@@ -12,9 +13,9 @@
  *
  * Painting is lent two: the screen, which it only reads, and a buffer of any length for the bytes that go to a terminal.
  *
- * Nothing is asked beforehand. Whatever is handed over, the call answers; what is wrong is refused with a number, and then no byte of
- * any store has changed. Each pointer must be that of as many bytes as its length says, no two that are lent to one call may overlap, and
- * none may be null, not even with length 0.
+ * A call trusts the host with its pointers, and asks nothing else beforehand: each pointer is that of as many bytes as the length beside
+ * it says, no two that are lent to one call overlap, and none is null, not even with length 0. Whatever the numbers and the bytes are, the
+ * call answers; what is wrong is refused with a number, and then no byte of any store has changed.
  */
 #ifndef CHIDUKWORE_H
 #define CHIDUKWORE_H
@@ -34,7 +35,7 @@ enum {
     CHIDUKWORE_LONG = 2,    /* opening: the stated length is more than T */
     CHIDUKWORE_TEXT = 3,    /* opening: a byte of the text is neither 10 nor 32 to 126; painting: a byte of the screen is not 32 to 126;
                                place is its index, from 0 */
-    CHIDUKWORE_SESSION = 4, /* key: record and stores are not what a call gave back */
+    CHIDUKWORE_SESSION = 4, /* key: record and stores are not a session, as said at the record */
     CHIDUKWORE_KEY = 5,     /* key: no such key, a byte that is not allowed, or one of the two deletions that are not carried out */
     CHIDUKWORE_FULL = 6,    /* key: the finished text would not fit its store */
     CHIDUKWORE_ROOM = 7     /* painting: there are more bytes than the buffer holds */
@@ -59,7 +60,16 @@ enum {
     CHIDUKWORE_DOCUMENT = 4
 };
 
-/* The session record. A host hands it on and need not look into it; the lengths tell where the texts lie. */
+/* The session record. A host hands it on and need not look into it; the lengths tell where the texts lie.
+ *
+ * With the stores it is a session if all of these hold, as they do of whatever an accepted call gives back:
+ *   mode is 0 or 1;
+ *   the lengths fit: l + r and rl + rr are at most T, and ql + qr, qrl + qrr, xl + xr and pl at most 256, sums that never wrap;
+ *   every byte of a text is 10 or 32 to 126, and every byte of text, recall and side that belongs to none is 0;
+ *   of each recall text at least one half is empty: rl or rr is 0, and qrl or qrr is 0;
+ *   in MAIN the quotation and its recall text are empty: ql, qr, qrl and qrr are 0;
+ *   the cursor is visible: top < its row <= top + rows, rows from 1, and left <= its column <= left + columns, columns from 0. In QUOTED
+ *   it is the quotation's, which stands on lines of its own at the document's cursor, the first begun by >. */
 struct chidukwore_record {
     size_t l, r;       /* document: its first l bytes are text[0 .. l), the others the last r bytes of text */
     size_t ql, qr;     /* quotation, likewise in side[0 .. 256) */

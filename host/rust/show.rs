@@ -1,16 +1,19 @@
-//! Opens a small deck, presses some keys and prints what each call answers and the bytes that a terminal is sent then.
+//! Opens the deck in a file and presses some keys. Prints what each call answers and the bytes that a terminal is sent then, and at the
+//! end the document.
 
 mod chidukwore;
 
 use chidukwore::{insert, Answer, Key, Record, Reply, Stores, FIND, QUOTE, RECALL};
+use std::process::ExitCode;
 
+const T: usize = 16;
 const ROWS: usize = 2;
 const COLUMNS: usize = 4;
 
 /// The stores and the record, handed on from call to call.
 struct Bench {
-    text: [u8; 16],
-    recall: [u8; 16],
+    text: [u8; T],
+    recall: [u8; T],
     side: [u8; 1024],
     screen: [u8; ROWS * COLUMNS],
     record: Record,
@@ -21,10 +24,17 @@ impl Bench {
         Stores { text: &mut self.text, recall: &mut self.recall, side: &mut self.side, screen: &mut self.screen }
     }
 
-    fn open(&mut self, deck: &[u8]) {
-        self.text[..deck.len()].copy_from_slice(deck);
+    /// A deck that is longer than T bytes is opened by its whole length all the same: opening refuses that with LONG.
+    fn open(&mut self, deck: &[u8]) -> bool {
+        let front = deck.len().min(T);
+        self.text[..front].copy_from_slice(&deck[..front]);
         let reply = chidukwore::open(deck.len(), ROWS, COLUMNS, self.lent());
-        self.print("open", reply);
+        self.print("open", reply)
+    }
+
+    /// What is left of the cursor, from the front of the store, then what is right of it, from the back.
+    fn document(&self) -> Vec<u8> {
+        [&self.text[..self.record.l], &self.text[T - self.record.r..]].concat()
     }
 
     fn key(&mut self, what: &str, key: Key) {
@@ -32,16 +42,18 @@ impl Bench {
         self.print(what, reply);
     }
 
-    fn print(&mut self, what: &str, reply: Reply) {
+    /// Says whether the call was accepted.
+    fn print(&mut self, what: &str, reply: Reply) -> bool {
         let a = reply.answer;
         self.record = reply.record;
         if a.code != 0 {
             println!("{what}: refused {}", a.code);
-            return;
+            return false;
         }
         let Answer { steps, bell, first, last, row, column, .. } = a;
         println!("{what}: steps {steps}, bell {bell}, rows {first} to {last}, cursor {row} {column}");
         self.send(a);
+        true
     }
 
     /// The bytes for a terminal, with ESC as \e.
@@ -53,9 +65,15 @@ impl Bench {
     }
 }
 
-fn main() {
-    let mut bench = Bench { text: [0; 16], recall: [0; 16], side: [0; 1024], screen: [0; 8], record: Record::default() };
-    bench.open(b"a=1\nbb=22\nc");
+fn main() -> ExitCode {
+    let Some(Ok(deck)) = std::env::args().nth(1).map(std::fs::read) else {
+        eprintln!("usage: show DECK, a file");
+        return ExitCode::FAILURE;
+    };
+    let mut bench = Bench { text: [0; T], recall: [0; T], side: [0; 1024], screen: [0; 8], record: Record::default() };
+    if !bench.open(&deck) {
+        return ExitCode::FAILURE;
+    }
     bench.key("left to a line ending", Key(1, 0, 0, 3));
     bench.key("right to a line ending", Key(1, 0, 1, 3));
     bench.key("quote", QUOTE);
@@ -65,5 +83,8 @@ fn main() {
     bench.key("delete right to a line ending", Key(1, 1, 1, 3));
     bench.key("recall", RECALL);
     bench.key("right", Key(1, 0, 1, 0));
+    bench.key("insert 5", insert(b'5'));
     bench.key("no key", Key(99, 0, 0, 0));
+    print!("document:\n{}", String::from_utf8_lossy(&bench.document()));
+    ExitCode::SUCCESS
 }
