@@ -14,12 +14,6 @@ Inv-loop place way t n d₀ d = Scan (placeAway place way t) (length t) 1 d
 abbrev μ-loop : tie.MeasureT-loop
 μ-loop place way t n d₀ d = length t + 1 - d
 
-loop-holds : tie.Need-loop-holds Inv-loop μ-loop
-loop-holds c = scan-start _ _ _
-
-lowest-place-requires : tie.Need-lowest-place-requires Inv-loop μ-loop
-lowest-place-requires c κs = omega arith
-
 stands-requires : tie.Need-stands-requires Inv-loop μ-loop
 stands-requires c κs =
     let start : tie.Start Inv-loop μ-loop = search in
@@ -34,12 +28,6 @@ returns : tie.Need-returns Inv-loop μ-loop
 returns c other =
     scan-found _ _ _ _ (c .before .before .before .before .loop .inv) (omega arith) (away (c .before) ∙ c .if1 .taken) ∙ distance-away _ _ other _
 
-add-d : tie.Need-add-d Inv-loop μ-loop
-add-d c = omega arith
-
-loop-less : tie.Need-loop-less Inv-loop μ-loop
-loop-less c = omega arith
-
 loop-again : tie.Need-loop-again Inv-loop μ-loop
 loop-again c = scan-more _ _ _ _ (c .before .before .before .before .loop .inv) (omega arith) (away (c .before) ∙ c .if1 .left)
 
@@ -47,16 +35,10 @@ returns-2 : tie.Need-returns-2 Inv-loop μ-loop
 returns-2 c other = scan-none _ _ _ _ (c .before .loop .inv) (omega arith) ∙ distance-away _ _ other _
 
 pub scan-spec : {M : Type 1} → statement M
-scan-spec =
-    tie.close
-    (tie.spec
-    Inv-loop
-    μ-loop
-    loop-holds
-    lowest-place-requires
-    stands-requires
-    returns
-    add-d
-    loop-less
-    loop-again
-    returns-2)
+scan-spec = tie.close (tie.spec Inv-loop μ-loop
+    (λ c. scan-start _ _ _)  -- loop-holds
+    (λ c κs. omega arith)  -- lowest-place-requires
+    stands-requires returns
+    (λ c. omega arith)  -- add-d
+    (λ c. omega arith)  -- loop-less
+    loop-again returns-2)

@@ -10,24 +10,9 @@ use Rattle.editor.proofs.Laws.Quotation.{second-copied, quotation-edite
 use Rattle.editor.proofs.quotations.edit_quotation.Statement.{statement}
 use Rattle.editor.proofs.quotations.edit_quotation.Tie as tie
 
-slice-aggregate-copy-front : tie.Need-slice-aggregate-copy-front
-slice-aggregate-copy-front c = search needs
-
-mul-copy-front : tie.Need-mul-copy-front
-mul-copy-front c = search needs
-
-sub-copy-front : tie.Need-sub-copy-front
-sub-copy-front c = search needs
-
-part-copy-front-start : tie.Need-part-copy-front-start
-part-copy-front-start c = search needs
-
 part-copy-front-end : tie.Need-part-copy-front-end
 unfolding quarter
 part-copy-front-end c = omega arith
-
-copy-front-requires : tie.Need-copy-front-requires
-copy-front-requires c κs = search needs
 
 slice-relend-prefix-on-side : tie.Need-slice-relend-prefix-on-side
 unfolding quarter
@@ -36,9 +21,6 @@ slice-relend-prefix-on-side c = omega arith
 slice-aggregate-on-side : tie.Need-slice-aggregate-on-side
 unfolding quarter
 slice-aggregate-on-side c = simp length-take (omega arith)
-
-slice-aggregate-on-side-2 : tie.Need-slice-aggregate-on-side-2
-slice-aggregate-on-side-2 c = search needs
 
 -- The array holds the second quarter.
 own-is : (c : tie.After-copy-front)
@@ -54,9 +36,6 @@ on-side-requires c κs =
     let copied = c .before .before .before in
     subst (OnSide _ _) (sym (own-is copied)) (copied .before .before .before .before .before .pre .1)
 
-slice-aggregate-copy-at : tie.Need-slice-aggregate-copy-at
-slice-aggregate-copy-at c = search needs
-
 copy-at-requires : tie.Need-copy-at-requires
 unfolding quarter
 copy-at-requires c κs =
@@ -65,9 +44,6 @@ copy-at-requires c κs =
     let same = after .on-side .kept .1 .1 in
     simp (length-append, length-drop)
     (omega (arith, copied .before .before .before .before .before .pre .0, copied .copy-front .kept .0, same .0, same .1 .0))
-
-same-length : tie.Need-same-length
-same-length c = search needs
 
 returns : tie.Need-returns
 unfolding quarter part
@@ -78,20 +54,17 @@ returns c =
     (after .on-side .kept .1 .1 .0) (after .on-side .kept .1 .1 .1 .0) (after .on-side .ensures) (c .before .before .copy-at .ensures)
 
 pub edit-quotation-spec : {M : Type 1} → statement M
-edit-quotation-spec =
-    tie.close
-    (tie.spec
-    slice-aggregate-copy-front
-    mul-copy-front
-    sub-copy-front
-    part-copy-front-start
+edit-quotation-spec = tie.close (tie.spec
+    (λ c. search needs)  -- slice-aggregate-copy-front
+    (λ c. search needs)  -- mul-copy-front
+    (λ c. search needs)  -- sub-copy-front
+    (λ c. search needs)  -- part-copy-front-start
     part-copy-front-end
-    copy-front-requires
-    slice-relend-prefix-on-side
-    slice-aggregate-on-side
-    slice-aggregate-on-side-2
+    (λ c κs. search needs)  -- copy-front-requires
+    slice-relend-prefix-on-side slice-aggregate-on-side
+    (λ c. search needs)  -- slice-aggregate-on-side-2
     on-side-requires
-    slice-aggregate-copy-at
+    (λ c. search needs)  -- slice-aggregate-copy-at
     copy-at-requires
-    same-length
+    (λ c. search needs)  -- same-length
     returns)

@@ -13,9 +13,6 @@ add-end c =
     let start : tie.Start = search in
     omega (arith, start .pre)
 
-slice-aggregate-copy-front : tie.Need-slice-aggregate-copy-front
-slice-aggregate-copy-front c = search needs
-
 slice-reshare-prefix-copy-front : tie.Need-slice-reshare-prefix-copy-front
 unfolding quarter
 slice-reshare-prefix-copy-front c =
@@ -34,15 +31,6 @@ copy-front-requires c κs =
     let start : tie.Start = search in
     simp length-take (omega (arith, start .pre))
 
-slice-aggregate-hand-over : tie.Need-slice-aggregate-hand-over
-slice-aggregate-hand-over c = search needs
-
-sub-hand-over : tie.Need-sub-hand-over
-sub-hand-over c = search needs
-
-part-hand-over-start : tie.Need-part-hand-over-start
-part-hand-over-start c = search needs
-
 part-hand-over-end : tie.Need-part-hand-over-end
 unfolding quarter
 part-hand-over-end c =
@@ -55,17 +43,11 @@ hand-over-requires c κs =
     let copied : tie.After-copy-front = search in let start : tie.Start = search in
     (omega (arith, copied .copy-front .kept .0, start .pre), simp (length-take, length-drop) (omega (arith, start .pre)))
 
-mul-vacate : tie.Need-mul-vacate
-mul-vacate c = search needs
-
 vacate-requires : tie.Need-vacate-requires
 unfolding quarter
 vacate-requires c κs =
     let given : tie.After-hand-over = search in let start : tie.Start = search in
     simp (length-append, length-take, length-drop) (omega (arith, given .hand-over .kept .1 .1 .1 .0, start .pre))
-
-same-length : tie.Need-same-length
-same-length c = search needs
 
 returns : tie.Need-returns
 unfolding quarter
@@ -76,20 +58,14 @@ returns c =
     (given .hand-over .ensures) (given .hand-over .kept .1 .1 .1 .0) (freed .vacate .ensures)
 
 pub give-quotation-spec : {M : Type 1} → statement M
-give-quotation-spec =
-    tie.close
-    (tie.spec
-    add-end
-    slice-aggregate-copy-front
-    slice-reshare-prefix-copy-front
-    slice-aggregate-copy-front-2
-    copy-front-requires
-    slice-aggregate-hand-over
-    sub-hand-over
-    part-hand-over-start
-    part-hand-over-end
-    hand-over-requires
-    mul-vacate
+give-quotation-spec = tie.close (tie.spec add-end
+    (λ c. search needs)  -- slice-aggregate-copy-front
+    slice-reshare-prefix-copy-front slice-aggregate-copy-front-2 copy-front-requires
+    (λ c. search needs)  -- slice-aggregate-hand-over
+    (λ c. search needs)  -- sub-hand-over
+    (λ c. search needs)  -- part-hand-over-start
+    part-hand-over-end hand-over-requires
+    (λ c. search needs)  -- mul-vacate
     vacate-requires
-    same-length
+    (λ c. search needs)  -- same-length
     returns)

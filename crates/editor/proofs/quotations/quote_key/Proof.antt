@@ -8,26 +8,11 @@ use Rattle.editor.proofs.Laws.Replies.{quote-done}
 use Rattle.editor.proofs.quotations.quote_key.Statement.{statement}
 use Rattle.editor.proofs.quotations.quote_key.Tie as tie
 
-mul-vacate : tie.Need-mul-vacate
-mul-vacate c = search needs
-
 vacate-requires : tie.Need-vacate-requires
 unfolding quarter
 vacate-requires c κs =
     let start : tie.Start = search in
     omega (arith, start .pre)
-
-other-mode-requires : tie.Need-other-mode-requires
-other-mode-requires c κs = search needs
-
-cleared-requires : tie.Need-cleared-requires
-cleared-requires c κs = search needs
-
-edited-requires : tie.Need-edited-requires
-edited-requires c κs = search needs
-
-same-length : tie.Need-same-length
-same-length c = search needs
 
 returns : tie.Need-returns
 unfolding quarter
@@ -38,4 +23,11 @@ returns c =
     λ text recall sound. quote-done quarter _ _ sound _ (done .edited .ensures) refl lengths (freed .vacate .ensures)
 
 pub quote-key-spec : {M : Type 1} → statement M
-quote-key-spec = tie.close (tie.spec mul-vacate vacate-requires other-mode-requires cleared-requires edited-requires same-length returns)
+quote-key-spec = tie.close (tie.spec
+    (λ c. search needs)  -- mul-vacate
+    vacate-requires
+    (λ c κs. search needs)  -- other-mode-requires
+    (λ c κs. search needs)  -- cleared-requires
+    (λ c κs. search needs)  -- edited-requires
+    (λ c. search needs)  -- same-length
+    returns)

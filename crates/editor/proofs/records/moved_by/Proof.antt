@@ -4,9 +4,6 @@ use borrow.Author.Needs.{needs}
 use Rattle.editor.proofs.records.moved_by.Statement.{statement}
 use Rattle.editor.proofs.records.moved_by.Tie as tie
 
-enum-told : tie.Need-enum-told
-enum-told c = search needs
-
 sub-m : tie.Need-sub-m
 sub-m c =
     let told : tie.After-enum-told = search in let start : tie.Start = search in
@@ -16,9 +13,6 @@ add-m : tie.Need-add-m
 add-m c =
     let told : tie.After-enum-told = search in let start : tie.Start = search in
     omega (arith, rw (told .enum-told .given .1) at (start .pre .0), start .pre .1)
-
-enum-told-2 : tie.Need-enum-told-2
-enum-told-2 c = search needs
 
 add-m-2 : tie.Need-add-m-2
 add-m-2 c =
@@ -37,4 +31,8 @@ returns-2 : tie.Need-returns-2
 returns-2 c = let told : tie.After-enum-told2 = search in rw (told .enum-told2 .given .1)
 
 pub moved-by-spec : {M : Type 1} → statement M
-moved-by-spec = tie.close (tie.spec enum-told sub-m add-m enum-told-2 add-m-2 sub-m-2 returns returns-2)
+moved-by-spec = tie.close (tie.spec
+    (λ c. search needs)  -- enum-told
+    sub-m add-m
+    (λ c. search needs)  -- enum-told-2
+    add-m-2 sub-m-2 returns returns-2)

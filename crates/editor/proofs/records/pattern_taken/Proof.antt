@@ -3,18 +3,6 @@ use borrow.Author.Needs.{needs}
 use Rattle.editor.proofs.records.pattern_taken.Statement.{statement}
 use Rattle.editor.proofs.records.pattern_taken.Tie as tie
 
-enum-told : tie.Need-enum-told
-enum-told c = search needs
-
-enum-told-2 : tie.Need-enum-told-2
-enum-told-2 c = search needs
-
-cleared-requires : tie.Need-cleared-requires
-cleared-requires c κs = search needs
-
-add-m : tie.Need-add-m
-add-m c = search needs
-
 returns : tie.Need-returns
 returns c = let told : tie.After-enum-told = search in rw (told .enum-told .given .1)
 
@@ -24,4 +12,8 @@ returns-2 c =
     rw (cleared .cleared .ensures, told .enum-told2 .given .1)
 
 pub pattern-taken-spec : {M : Type 1} → statement M
-pattern-taken-spec = tie.close (tie.spec enum-told enum-told-2 cleared-requires add-m returns returns-2)
+pattern-taken-spec = tie.close (tie.spec
+    (λ c. search needs) (λ c. search needs)  -- enum-told .. enum-told-2
+    (λ c κs. search needs)  -- cleared-requires
+    (λ c. search needs)  -- add-m
+    returns returns-2)

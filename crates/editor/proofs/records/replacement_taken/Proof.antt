@@ -3,15 +3,6 @@ use borrow.Author.Needs.{needs}
 use Rattle.editor.proofs.records.replacement_taken.Statement.{statement}
 use Rattle.editor.proofs.records.replacement_taken.Tie as tie
 
-enum-told : tie.Need-enum-told
-enum-told c = search needs
-
-enum-told-2 : tie.Need-enum-told-2
-enum-told-2 c = search needs
-
-cleared-requires : tie.Need-cleared-requires
-cleared-requires c κs = search needs
-
 returns : tie.Need-returns
 returns c = let told : tie.After-enum-told = search in rw (told .enum-told .given .1)
 
@@ -21,4 +12,7 @@ returns-2 c =
     rw (cleared .cleared .ensures, told .enum-told2 .given .1)
 
 pub replacement-taken-spec : {M : Type 1} → statement M
-replacement-taken-spec = tie.close (tie.spec enum-told enum-told-2 cleared-requires returns returns-2)
+replacement-taken-spec = tie.close (tie.spec
+    (λ c. search needs) (λ c. search needs)  -- enum-told .. enum-told-2
+    (λ c κs. search needs)  -- cleared-requires
+    returns returns-2)

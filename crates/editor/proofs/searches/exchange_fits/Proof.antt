@@ -19,9 +19,6 @@ add-result c =
     let start : tie.Start = search in
     omega (arith, start .pre .1 .1)
 
-add-result-2 : tie.Need-add-result-2
-add-result-2 c = search needs
-
 sub-result : tie.Need-sub-result
 sub-result c =
     let tested : tie.Else1 = search in let start : tie.Start = search in
@@ -40,5 +37,6 @@ returns-2 c =
     (same-test (n .xl + n .xr) (n .main .l + n .main .r - n .pl) (start .args .size) (omega (arith, start .pre .0)))
 
 pub exchange-fits-spec : {M : Type 1} → statement M
-exchange-fits-spec =
-    tie.close (tie.spec returns add-result add-result-2 sub-result sub-result-2 returns-2)
+exchange-fits-spec = tie.close (tie.spec returns add-result
+    (λ c. search needs)  -- add-result-2
+    sub-result sub-result-2 returns-2)

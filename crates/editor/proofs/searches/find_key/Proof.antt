@@ -8,9 +8,6 @@ use Rattle.editor.proofs.Laws.HandedOver.{pattern-holds, find-done}
 use Rattle.editor.proofs.searches.find_key.Statement.{statement}
 use Rattle.editor.proofs.searches.find_key.Tie as tie
 
-mul-hand-quotation : tie.Need-mul-hand-quotation
-mul-hand-quotation c = search needs
-
 hand-quotation-requires : tie.Need-hand-quotation-requires
 unfolding quarter
 hand-quotation-requires c κs =
@@ -28,12 +25,6 @@ search-requires c κs =
     let taken : tie.After-pattern-taken = search in let handed : tie.After-hand-quotation = search in let start : tie.Start = search in
     taken-searchable _ _ _ _ _ (start .pre) (taken .pattern-taken .ensures) (handed .hand-quotation .kept .1 .1 .1 .0)
 
-same-length : tie.Need-same-length
-same-length c = search needs
-
-same-length-2 : tie.Need-same-length-2
-same-length-2 c = search needs
-
 returns : tie.Need-returns
 unfolding quarter
 returns c =
@@ -44,13 +35,8 @@ returns c =
     found .search .ensures _ (holds .sound) ∙ find-done quarter _ _ sound holds _
 
 pub find-key-spec : {M : Type 1} → statement M
-find-key-spec =
-    tie.close
-    (tie.spec
-    mul-hand-quotation
-    hand-quotation-requires
-    pattern-taken-requires
-    search-requires
-    same-length
-    same-length-2
+find-key-spec = tie.close (tie.spec
+    (λ c. search needs)  -- mul-hand-quotation
+    hand-quotation-requires pattern-taken-requires search-requires
+    (λ c. search needs) (λ c. search needs)  -- same-length .. same-length-2
     returns)

@@ -25,23 +25,11 @@ unfolding quarter
 known c =
     stands-here quarter _ _ (begun c .pre) _ (c .text-begins .ensures)
 
-mul-end : tie.Need-mul-end
-mul-end c = search needs
-
 add-end : tie.Need-add-end
 unfolding quarter
 add-end c =
     let start : tie.Start = search in
     omega (arith, fitting quarter _ _ (start .pre))
-
-mul-text-begins : tie.Need-mul-text-begins
-mul-text-begins c = search needs
-
-sub-text-begins : tie.Need-sub-text-begins
-sub-text-begins c = search needs
-
-part-text-begins-start : tie.Need-part-text-begins-start
-part-text-begins-start c = search needs
 
 part-text-begins-end : tie.Need-part-text-begins-end
 unfolding quarter
@@ -54,9 +42,6 @@ text-begins-requires c κs =
     let start : tie.Start = search in
     (fitting quarter _ _ (start .pre) .document, omega arith)
 
-replacement-taken-requires : tie.Need-replacement-taken-requires
-replacement-taken-requires c κs = search needs
-
 exchange-fits-requires : tie.Need-exchange-fits-requires
 exchange-fits-requires c κs =
     let taken : tie.After-replacement-taken = search in let asked : tie.After-text-begins = search in let start = begun asked in
@@ -64,24 +49,12 @@ exchange-fits-requires c κs =
     let (document, replacement) = taken-fits quarter _ _ (taken .replacement-taken .ensures) fit in
     (document, (λ here. taken-stands (start .args .n) _ (taken .replacement-taken .ensures) (pattern-stands quarter _ _ (start .pre) (sym (known asked) ∙ here)), replacement))
 
-unedited-requires : tie.Need-unedited-requires
-unedited-requires c κs = search needs
-
-same-length : tie.Need-same-length
-same-length c = search needs
-
-same-length-2 : tie.Need-same-length-2
-same-length-2 c = search needs
-
 returns : tie.Need-returns
 returns c =
     let tested : tie.Then1 = search in let fits : tie.After-exchange-fits = search in
     let taken : tie.After-replacement-taken = search in let asked : tie.After-text-begins = search in let start = begun asked in
     replace-refused quarter _ _ (start .pre) (known asked) _ (taken .replacement-taken .ensures) (fits .exchange-fits .ensures)
     (not-true _ (tested .if1 .taken)) (c .unedited .ensures)
-
-mul-hand-quotation : tie.Need-mul-hand-quotation
-mul-hand-quotation c = search needs
 
 hand-quotation-requires : tie.Need-hand-quotation-requires
 unfolding quarter
@@ -101,15 +74,6 @@ substitute-requires c κs =
     (not-false _ (tested .if1 .left)) holds in
     (holds .sound, record { known = match; room = room })
 
-same-length-3 : tie.Need-same-length-3
-same-length-3 c = search needs
-
-same-length-4 : tie.Need-same-length-4
-same-length-4 c = search needs
-
-same-length-5 : tie.Need-same-length-5
-same-length-5 c = search needs
-
 returns-2 : tie.Need-returns-2
 unfolding quarter
 returns-2 c =
@@ -122,26 +86,19 @@ returns-2 c =
     (replace-fits quarter _ _ (start .pre) (known asked) _ (taken .replacement-taken .ensures) (fits .exchange-fits .ensures) (not-false _ (tested .if1 .left)))
 
 pub replace-key-spec : {M : Type 1} → statement M
-replace-key-spec =
-    tie.close
-    (tie.spec
-    mul-end
+replace-key-spec = tie.close (tie.spec
+    (λ c. search needs)  -- mul-end
     add-end
-    mul-text-begins
-    sub-text-begins
-    part-text-begins-start
-    part-text-begins-end
-    text-begins-requires
-    replacement-taken-requires
+    (λ c. search needs)  -- mul-text-begins
+    (λ c. search needs)  -- sub-text-begins
+    (λ c. search needs)  -- part-text-begins-start
+    part-text-begins-end text-begins-requires
+    (λ c κs. search needs)  -- replacement-taken-requires
     exchange-fits-requires
-    unedited-requires
-    same-length
-    same-length-2
+    (λ c κs. search needs)  -- unedited-requires
+    (λ c. search needs) (λ c. search needs)  -- same-length .. same-length-2
     returns
-    mul-hand-quotation
-    hand-quotation-requires
-    substitute-requires
-    same-length-3
-    same-length-4
-    same-length-5
+    (λ c. search needs)  -- mul-hand-quotation
+    hand-quotation-requires substitute-requires
+    (λ c. search needs) (λ c. search needs) (λ c. search needs)  -- same-length-3 .. same-length-5
     returns-2)

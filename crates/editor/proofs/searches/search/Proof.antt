@@ -10,23 +10,11 @@ use Rattle.editor.proofs.Laws.FindReplace.{search-done}
 use Rattle.editor.proofs.searches.search.Statement.{statement}
 use Rattle.editor.proofs.searches.search.Tie as tie
 
-mul-end : tie.Need-mul-end
-mul-end c = search needs
-
 add-end : tie.Need-add-end
 unfolding quarter
 add-end c =
     let start : tie.Start = search in
     omega (arith, start .pre .pattern)
-
-mul-match-distance : tie.Need-mul-match-distance
-mul-match-distance c = search needs
-
-sub-match-distance : tie.Need-sub-match-distance
-sub-match-distance c = search needs
-
-part-match-distance-start : tie.Need-part-match-distance-start
-part-match-distance-start c = search needs
 
 part-match-distance-end : tie.Need-part-match-distance-end
 unfolding quarter
@@ -38,18 +26,6 @@ match-distance-requires : tie.Need-match-distance-requires
 match-distance-requires c κs =
     let start : tie.Start = search in
     start .pre .document .fits
-
-enum-known-d : tie.Need-enum-known-d
-enum-known-d c = search needs
-
-enum-told : tie.Need-enum-told
-enum-told c = search needs
-
-edited-requires : tie.Need-edited-requires
-edited-requires c κs = search needs
-
-same-length : tie.Need-same-length
-same-length c = search needs
 
 returns : tie.Need-returns
 unfolding quarter
@@ -63,12 +39,6 @@ move-side-requires c κs =
     let told : tie.After-d = search in let found : tie.After-match-distance = search in let start : tie.Start = search in
     (start .pre .document, within-room (start .args .n .main) (start .pre .document) _ _ (found .match-distance .ensures) (told .d .given .1))
 
-lifted-requires : tie.Need-lifted-requires
-lifted-requires c κs = search needs
-
-same-length-2 : tie.Need-same-length-2
-same-length-2 c = search needs
-
 returns-2 : tie.Need-returns-2
 unfolding quarter
 returns-2 c =
@@ -78,22 +48,18 @@ returns-2 c =
     (gone .move-side .ensures _ (on-side quarter _ _ sound Main))
 
 pub search-spec : {M : Type 1} → statement M
-search-spec =
-    tie.close
-    (tie.spec
-    mul-end
+search-spec = tie.close (tie.spec
+    (λ c. search needs)  -- mul-end
     add-end
-    mul-match-distance
-    sub-match-distance
-    part-match-distance-start
-    part-match-distance-end
-    match-distance-requires
-    enum-known-d
-    enum-told
-    edited-requires
-    same-length
-    returns
-    move-side-requires
-    lifted-requires
-    same-length-2
+    (λ c. search needs)  -- mul-match-distance
+    (λ c. search needs)  -- sub-match-distance
+    (λ c. search needs)  -- part-match-distance-start
+    part-match-distance-end match-distance-requires
+    (λ c. search needs)  -- enum-known-d
+    (λ c. search needs)  -- enum-told
+    (λ c κs. search needs)  -- edited-requires
+    (λ c. search needs)  -- same-length
+    returns move-side-requires
+    (λ c κs. search needs)  -- lifted-requires
+    (λ c. search needs)  -- same-length-2
     returns-2)

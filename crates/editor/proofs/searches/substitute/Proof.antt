@@ -18,16 +18,10 @@ known c =
     let start : tie.Start = search in
     exchangeable quarter _ _ (start .pre .0) (sym (start .pre .1 .known) ∙ not-false _ (c .if1 .left)) (start .pre .1 .room)
 
-edited-requires : tie.Need-edited-requires
-edited-requires c κs = search needs
-
 returns : tie.Need-returns
 returns c =
     let rung : tie.After-edited = search in let tested : tie.Then1 = search in let start : tie.Start = search in
     substitute-rings quarter _ _ (start .pre .0) (sym (start .pre .1 .known) ∙ not-true _ (tested .if1 .taken)) (rung .edited .ensures) refl
-
-mul-end : tie.Need-mul-end
-mul-end c = search needs
 
 add-end : tie.Need-add-end
 unfolding quarter
@@ -45,18 +39,6 @@ sub-place-pair c =
     let here : tie.Else1 = search in
     known here .stands
 
-mul-place-pair : tie.Need-mul-place-pair
-mul-place-pair c = search needs
-
-mul-place-pair-2 : tie.Need-mul-place-pair-2
-mul-place-pair-2 c = search needs
-
-sub-place-pair-2 : tie.Need-sub-place-pair-2
-sub-place-pair-2 c = search needs
-
-part-place-pair-start : tie.Need-part-place-pair-start
-part-place-pair-start c = search needs
-
 part-place-pair-end : tie.Need-part-place-pair-end
 unfolding quarter
 part-place-pair-end c =
@@ -73,15 +55,6 @@ place-pair-requires c κs =
         simp (length-take, length-drop) (omega (arith, fitting quarter _ _ (start .pre .0))),
       ),
     )
-
-mul-hold : tie.Need-mul-hold
-mul-hold c = search needs
-
-sub-hold : tie.Need-sub-hold
-sub-hold c = search needs
-
-part-hold-start : tie.Need-part-hold-start
-part-hold-start c = search needs
 
 part-hold-end : tie.Need-part-hold-end
 unfolding quarter
@@ -109,19 +82,10 @@ add-main-2 c =
     let here : tie.Else1 = search in let start : tie.Start = search in
     omega (arith, known here, fitting quarter _ _ (start .pre .0))
 
-done-requires : tie.Need-done-requires
-done-requires c κs = search needs
-
-lifted-requires : tie.Need-lifted-requires
-lifted-requires c κs = search needs
-
 same-length : tie.Need-same-length
 same-length c =
     let placed : tie.After-place-pair = search in let dropped : tie.After-drop-right = search in
     omega (arith, placed .place-pair .kept .0, dropped .drop-right .kept .0)
-
-same-length-2 : tie.Need-same-length-2
-same-length-2 c = search needs
 
 returns-2 : tie.Need-returns-2
 unfolding quarter
@@ -134,31 +98,21 @@ returns-2 c =
     (placed .place-pair .ensures) (held .hold .ensures) (lifted .lifted .ensures) (done .done .ensures) refl
 
 pub substitute-spec : {M : Type 1} → statement M
-substitute-spec =
-    tie.close
-    (tie.spec
-    edited-requires
+substitute-spec = tie.close (tie.spec
+    (λ c κs. search needs)  -- edited-requires
     returns
-    mul-end
-    add-end
-    drop-right-requires
-    sub-place-pair
-    mul-place-pair
-    mul-place-pair-2
-    sub-place-pair-2
-    part-place-pair-start
-    part-place-pair-end
-    place-pair-requires
-    mul-hold
-    sub-hold
-    part-hold-start
-    part-hold-end
-    hold-requires
-    add-main
-    sub-main
-    add-main-2
-    done-requires
-    lifted-requires
+    (λ c. search needs)  -- mul-end
+    add-end drop-right-requires sub-place-pair
+    (λ c. search needs) (λ c. search needs)  -- mul-place-pair .. mul-place-pair-2
+    (λ c. search needs)  -- sub-place-pair-2
+    (λ c. search needs)  -- part-place-pair-start
+    part-place-pair-end place-pair-requires
+    (λ c. search needs)  -- mul-hold
+    (λ c. search needs)  -- sub-hold
+    (λ c. search needs)  -- part-hold-start
+    part-hold-end hold-requires add-main sub-main add-main-2
+    (λ c κs. search needs)  -- done-requires
+    (λ c κs. search needs)  -- lifted-requires
     same-length
-    same-length-2
+    (λ c. search needs)  -- same-length-2
     returns-2)

@@ -5,28 +5,10 @@ use Rattle.editor.proofs.Laws.SideEdits.{not-moved, not-deleted}
 use Rattle.editor.proofs.sides.bell_side.Statement.{statement}
 use Rattle.editor.proofs.sides.bell_side.Tie as tie
 
-enum-told : tie.Need-enum-told
-enum-told c = search needs
-
-done-requires : tie.Need-done-requires
-done-requires c κs = search needs
-
-enum-told-2 : tie.Need-enum-told-2
-enum-told-2 c = search needs
-
-clear-requires : tie.Need-clear-requires
-clear-requires c κs = search needs
-
-done-requires-2 : tie.Need-done-requires-2
-done-requires-2 c κs = search needs
-
 returns : tie.Need-returns
 returns c =
     let done : tie.After-done = search in let told : tie.After-enum-told = search in let start : tie.Start = search in
     rw (told .enum-told .given .1) (not-moved (start .pre) _ (done .done .ensures) refl)
-
-same-length : tie.Need-same-length
-same-length c = search needs
 
 returns-2 : tie.Need-returns-2
 returns-2 c =
@@ -35,4 +17,12 @@ returns-2 c =
     rw (told .enum-told2 .given .1) (not-deleted (start .pre) _ (done .done2 .ensures) refl (emptied .clear .ensures))
 
 pub bell-side-spec : {M : Type 1} → statement M
-bell-side-spec = tie.close (tie.spec enum-told done-requires enum-told-2 clear-requires done-requires-2 returns same-length returns-2)
+bell-side-spec = tie.close (tie.spec
+    (λ c. search needs)  -- enum-told
+    (λ c κs. search needs)  -- done-requires
+    (λ c. search needs)  -- enum-told-2
+    (λ c κs. search needs)  -- clear-requires
+    (λ c κs. search needs)  -- done-requires-2
+    returns
+    (λ c. search needs)  -- same-length
+    returns-2)

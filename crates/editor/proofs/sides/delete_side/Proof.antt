@@ -6,9 +6,6 @@ use Rattle.editor.proofs.Laws.SideEdits.{removed-fits, deleted}
 use Rattle.editor.proofs.sides.delete_side.Statement.{statement}
 use Rattle.editor.proofs.sides.delete_side.Tie as tie
 
-enum-told : tie.Need-enum-told
-enum-told c = search needs
-
 delete-left-requires : tie.Need-delete-left-requires
 delete-left-requires c κs =
     let told : tie.After-enum-told = search in let start : tie.Start = search in
@@ -19,15 +16,6 @@ sub-m : tie.Need-sub-m
 sub-m c =
     let told : tie.After-enum-told = search in let start : tie.Start = search in
     rw (told .enum-told .given .1) at (start .pre .1)
-
-went-requires : tie.Need-went-requires
-went-requires c κs = search needs
-
-done-requires : tie.Need-done-requires
-done-requires c κs = search needs
-
-enum-told-2 : tie.Need-enum-told-2
-enum-told-2 c = search needs
 
 delete-right-requires : tie.Need-delete-right-requires
 delete-right-requires c κs =
@@ -40,18 +28,6 @@ sub-m-2 c =
     let told : tie.After-enum-told2 = search in let start : tie.Start = search in
     rw (told .enum-told2 .given .1) at (start .pre .1)
 
-went-requires-2 : tie.Need-went-requires-2
-went-requires-2 c κs = search needs
-
-done-requires-2 : tie.Need-done-requires-2
-done-requires-2 c κs = search needs
-
-same-length : tie.Need-same-length
-same-length c = search needs
-
-same-length-2 : tie.Need-same-length-2
-same-length-2 c = search needs
-
 returns : tie.Need-returns
 returns c =
     let done : tie.After-done = search in let report : tie.After-went = search in let gone : tie.After-delete-left = search in
@@ -59,12 +35,6 @@ returns c =
     rw (told .enum-told .given .1)
     (deleted (start .pre .0) Left (done .done .ensures) (report .went .ensures) (rw (told .enum-told .given .1) at (start .pre .1)) refl
     (gone .delete-left .ensures .0) (gone .delete-left .ensures .1))
-
-same-length-3 : tie.Need-same-length-3
-same-length-3 c = search needs
-
-same-length-4 : tie.Need-same-length-4
-same-length-4 c = search needs
 
 returns-2 : tie.Need-returns-2
 returns-2 c =
@@ -75,22 +45,16 @@ returns-2 c =
     (gone .delete-right .ensures .0) (gone .delete-right .ensures .1))
 
 pub delete-side-spec : {M : Type 1} → statement M
-delete-side-spec =
-    tie.close
-    (tie.spec
-    enum-told
-    delete-left-requires
-    sub-m
-    went-requires
-    done-requires
-    enum-told-2
-    delete-right-requires
-    sub-m-2
-    went-requires-2
-    done-requires-2
-    same-length
-    same-length-2
+delete-side-spec = tie.close (tie.spec
+    (λ c. search needs)  -- enum-told
+    delete-left-requires sub-m
+    (λ c κs. search needs)  -- went-requires
+    (λ c κs. search needs)  -- done-requires
+    (λ c. search needs)  -- enum-told-2
+    delete-right-requires sub-m-2
+    (λ c κs. search needs)  -- went-requires-2
+    (λ c κs. search needs)  -- done-requires-2
+    (λ c. search needs) (λ c. search needs)  -- same-length .. same-length-2
     returns
-    same-length-3
-    same-length-4
+    (λ c. search needs) (λ c. search needs)  -- same-length-3 .. same-length-4
     returns-2)

@@ -15,15 +15,6 @@ move-cursor-requires c κs =
     let start : tie.Start = search in
     (start .pre .0, rw room-of at (start .pre .1))
 
-went-requires : tie.Need-went-requires
-went-requires c κs = search needs
-
-done-requires : tie.Need-done-requires
-done-requires c κs = search needs
-
-same-length : tie.Need-same-length
-same-length c = search needs
-
 returns : tie.Need-returns
 returns c =
     let done : tie.After-done = search in let report : tie.After-went = search in let gone : tie.After-move-cursor = search in
@@ -31,4 +22,8 @@ returns c =
     λ recall on. moved on _ (done .done .ensures) (report .went .ensures) (start .pre .1) (sizes .moved-by .ensures) (gone .move-cursor .ensures)
 
 pub move-side-spec : {M : Type 1} → statement M
-move-side-spec = tie.close (tie.spec moved-by-requires move-cursor-requires went-requires done-requires same-length returns)
+move-side-spec = tie.close (tie.spec moved-by-requires move-cursor-requires
+    (λ c κs. search needs)  -- went-requires
+    (λ c κs. search needs)  -- done-requires
+    (λ c. search needs)  -- same-length
+    returns)

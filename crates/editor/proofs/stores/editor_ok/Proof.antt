@@ -8,30 +8,12 @@ use Rattle.editor.proofs.Laws.Session.{measured}
 use Rattle.editor.proofs.stores.editor_ok.Statement.{statement}
 use Rattle.editor.proofs.stores.editor_ok.Tie as tie
 
-sound-gap-requires : tie.Need-sound-gap-requires
-sound-gap-requires c κs = search needs
-
-sound-pair-requires : tie.Need-sound-pair-requires
-sound-pair-requires c κs = search needs
-
 slice-aggregate-sound-gap : tie.Need-slice-aggregate-sound-gap
 unfolding quarter
 slice-aggregate-sound-gap c =
     let start : tie.Start = search in
     let sizes = measured quarter _ (start .pre) in
     simp length-take (omega arith)
-
-sound-gap-requires-2 : tie.Need-sound-gap-requires-2
-sound-gap-requires-2 c κs = search needs
-
-mul-sound-pair : tie.Need-mul-sound-pair
-mul-sound-pair c = search needs
-
-sub-sound-pair : tie.Need-sub-sound-pair
-sub-sound-pair c = search needs
-
-part-sound-pair-start : tie.Need-part-sound-pair-start
-part-sound-pair-start c = search needs
 
 part-sound-pair-end : tie.Need-part-sound-pair-end
 unfolding quarter
@@ -40,21 +22,6 @@ part-sound-pair-end c =
     let sizes = measured quarter _ (start .pre) in
     omega arith
 
-sound-pair-requires-2 : tie.Need-sound-pair-requires-2
-sound-pair-requires-2 c κs = search needs
-
-mul-sound-pair-2 : tie.Need-mul-sound-pair-2
-mul-sound-pair-2 c = search needs
-
-mul-sound-pair-3 : tie.Need-mul-sound-pair-3
-mul-sound-pair-3 c = search needs
-
-sub-sound-pair-2 : tie.Need-sub-sound-pair-2
-sub-sound-pair-2 c = search needs
-
-part-sound-pair-start-2 : tie.Need-part-sound-pair-start-2
-part-sound-pair-start-2 c = search needs
-
 part-sound-pair-end-2 : tie.Need-part-sound-pair-end-2
 unfolding quarter
 part-sound-pair-end-2 c =
@@ -62,39 +29,12 @@ part-sound-pair-end-2 c =
     let sizes = measured quarter _ (start .pre) in
     omega arith
 
-sound-pair-requires-3 : tie.Need-sound-pair-requires-3
-sound-pair-requires-3 c κs = search needs
-
-mul-sound-pair-4 : tie.Need-mul-sound-pair-4
-mul-sound-pair-4 c = search needs
-
-mul-sound-pair-5 : tie.Need-mul-sound-pair-5
-mul-sound-pair-5 c = search needs
-
-sub-sound-pair-3 : tie.Need-sub-sound-pair-3
-sub-sound-pair-3 c = search needs
-
-part-sound-pair-start-3 : tie.Need-part-sound-pair-start-3
-part-sound-pair-start-3 c = search needs
-
 part-sound-pair-end-3 : tie.Need-part-sound-pair-end-3
 unfolding quarter
 part-sound-pair-end-3 c =
     let after-sound-gap : tie.After-sound-gap = search in let start : tie.Start = search in
     let sizes = measured quarter _ (start .pre) in
     omega arith
-
-sound-pair-requires-4 : tie.Need-sound-pair-requires-4
-sound-pair-requires-4 c κs = search needs
-
-one-half-requires : tie.Need-one-half-requires
-one-half-requires c κs = search needs
-
-one-half-requires-2 : tie.Need-one-half-requires-2
-one-half-requires-2 c κs = search needs
-
-no-quotation-requires : tie.Need-no-quotation-requires
-no-quotation-requires c κs = search needs
 
 returns : tie.Need-returns
 unfolding quarter part editorOk
@@ -118,31 +58,26 @@ returns c =
     )
 
 pub editor-ok-spec : {M : Type 1} → statement M
-editor-ok-spec =
-    tie.close
-    (tie.spec
-    sound-gap-requires
-    sound-pair-requires
+editor-ok-spec = tie.close (tie.spec
+    (λ c κs. search needs)  -- sound-gap-requires
+    (λ c κs. search needs)  -- sound-pair-requires
     slice-aggregate-sound-gap
-    sound-gap-requires-2
-    mul-sound-pair
-    sub-sound-pair
-    part-sound-pair-start
+    (λ c κs. search needs)  -- sound-gap-requires-2
+    (λ c. search needs)  -- mul-sound-pair
+    (λ c. search needs)  -- sub-sound-pair
+    (λ c. search needs)  -- part-sound-pair-start
     part-sound-pair-end
-    sound-pair-requires-2
-    mul-sound-pair-2
-    mul-sound-pair-3
-    sub-sound-pair-2
-    part-sound-pair-start-2
+    (λ c κs. search needs)  -- sound-pair-requires-2
+    (λ c. search needs) (λ c. search needs)  -- mul-sound-pair-2 .. mul-sound-pair-3
+    (λ c. search needs)  -- sub-sound-pair-2
+    (λ c. search needs)  -- part-sound-pair-start-2
     part-sound-pair-end-2
-    sound-pair-requires-3
-    mul-sound-pair-4
-    mul-sound-pair-5
-    sub-sound-pair-3
-    part-sound-pair-start-3
+    (λ c κs. search needs)  -- sound-pair-requires-3
+    (λ c. search needs) (λ c. search needs)  -- mul-sound-pair-4 .. mul-sound-pair-5
+    (λ c. search needs)  -- sub-sound-pair-3
+    (λ c. search needs)  -- part-sound-pair-start-3
     part-sound-pair-end-3
-    sound-pair-requires-4
-    one-half-requires
-    one-half-requires-2
-    no-quotation-requires
+    (λ c κs. search needs)  -- sound-pair-requires-4
+    (λ c κs. search needs) (λ c κs. search needs)  -- one-half-requires .. one-half-requires-2
+    (λ c κs. search needs)  -- no-quotation-requires
     returns)

@@ -4,27 +4,6 @@ use Rattle.editor.proofs.Laws.Opening.{stores-opened}
 use Rattle.editor.proofs.stores.open_stores.Statement.{statement}
 use Rattle.editor.proofs.stores.open_stores.Tie as tie
 
-open-text-requires : tie.Need-open-text-requires
-open-text-requires c κs = search needs
-
-clear-requires : tie.Need-clear-requires
-clear-requires c κs = search needs
-
-clear-requires-2 : tie.Need-clear-requires-2
-clear-requires-2 c κs = search needs
-
-opening-lengths-requires : tie.Need-opening-lengths-requires
-opening-lengths-requires c κs = search needs
-
-same-length : tie.Need-same-length
-same-length c = search needs
-
-same-length-2 : tie.Need-same-length-2
-same-length-2 c = search needs
-
-same-length-3 : tie.Need-same-length-3
-same-length-3 c = search needs
-
 returns : tie.Need-returns
 returns c =
     let lengths : tie.After-opening-lengths = search in let side : tie.After-clear2 = search in let recall : tie.After-clear = search in
@@ -33,14 +12,9 @@ returns c =
     (recall .clear .ensures) (side .clear2 .ensures)
 
 pub open-stores-spec : {M : Type 1} → statement M
-open-stores-spec =
-    tie.close
-    (tie.spec
-    open-text-requires
-    clear-requires
-    clear-requires-2
-    opening-lengths-requires
-    same-length
-    same-length-2
-    same-length-3
+open-stores-spec = tie.close (tie.spec
+    (λ c κs. search needs)  -- open-text-requires
+    (λ c κs. search needs) (λ c κs. search needs)  -- clear-requires .. clear-requires-2
+    (λ c κs. search needs)  -- opening-lengths-requires
+    (λ c. search needs) (λ c. search needs) (λ c. search needs)  -- same-length .. same-length-3
     returns)

@@ -5,12 +5,11 @@ use Rattle.editor.specs.Rules.Bytes.{quarter, sized}
 use Rattle.editor.proofs.stores.sized_stores.Statement.{statement}
 use Rattle.editor.proofs.stores.sized_stores.Tie as tie
 
-mul-result : tie.Need-mul-result
-mul-result c = search needs
-
 returns : tie.Need-returns
 unfolding sized quarter
 returns c = refl
 
 pub sized-stores-spec : {M : Type 1} → statement M
-sized-stores-spec = tie.close (tie.spec mul-result returns)
+sized-stores-spec = tie.close (tie.spec
+    (λ c. search needs)  -- mul-result
+    returns)

@@ -8,19 +8,14 @@ use Rattle.gap.proofs.Laws.Stores.{deletes}
 use Rattle.gap.proofs.texts.drop_right.Statement.{statement}
 use Rattle.gap.proofs.texts.drop_right.Tie as tie
 
-sub-at : tie.Need-sub-at
-sub-at c = search needs
-
-vacate-requires : tie.Need-vacate-requires
-vacate-requires c κs = search needs
-
-same-length : tie.Need-same-length
-same-length c = search needs
-
 returns : tie.Need-returns
 returns c =
     let pre = c .before .before .before .before .before .pre in
     c .before .before .vacate .ensures ∙ deletes (pre .0) Right _ (pre .1) ∙ ap (gapped _) (deletions-right _ _)
 
 pub drop-right-spec : {M : Type 1} → statement M
-drop-right-spec = tie.close (tie.spec sub-at vacate-requires same-length returns)
+drop-right-spec = tie.close (tie.spec
+    (λ c. search needs)  -- sub-at
+    (λ c κs. search needs)  -- vacate-requires
+    (λ c. search needs)  -- same-length
+    returns)

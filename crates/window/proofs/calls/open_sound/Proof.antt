@@ -15,18 +15,6 @@ refresh-requires c κs =
     let opened : tie.After-open-stores = search in let start : tie.Start = search in
     refresh-asked _ _ _ _ (start .pre .0) (start .pre .1) (opened .open-stores .ensures) (opened .open-stores .kept .1 .1 .1 .0)
 
-same-length : tie.Need-same-length
-same-length c = search needs
-
-same-length-2 : tie.Need-same-length-2
-same-length-2 c = search needs
-
-same-length-3 : tie.Need-same-length-3
-same-length-3 c = search needs
-
-same-length-4 : tie.Need-same-length-4
-same-length-4 c = search needs
-
 returns : tie.Need-returns
 returns c =
     let painted : tie.After-refresh = search in let opened : tie.After-open-stores = search in let start : tie.Start = search in
@@ -34,13 +22,6 @@ returns c =
     (painted .refresh .ensures)
 
 pub open-sound-spec : {M : Type 1} → statement M
-open-sound-spec =
-    tie.close
-    (tie.spec
-    open-stores-requires
-    refresh-requires
-    same-length
-    same-length-2
-    same-length-3
-    same-length-4
+open-sound-spec = tie.close (tie.spec open-stores-requires refresh-requires
+    (λ c. search needs) (λ c. search needs) (λ c. search needs) (λ c. search needs)  -- same-length .. same-length-4
     returns)

@@ -5,9 +5,6 @@ use Rattle.window.proofs.Laws.KeyCall.{row-from-one, still-visible, off
 use Rattle.window.proofs.calls.show.Statement.{statement}
 use Rattle.window.proofs.calls.show.Tie as tie
 
-cursor-requires : tie.Need-cursor-requires
-cursor-requires c κs = search needs
-
 follow-requires : tie.Need-follow-requires
 follow-requires c κs =
     let seen : tie.After-cursor = search in let start : tie.Start = search in
@@ -37,9 +34,6 @@ sub-t14 c =
     let (texts, (frame, long)) = start .pre in
     offset-column _ _ _ _ (start .args .screen .now) texts frame long _ (seen .cursor .ensures) _ (followed .follow .ensures)
 
-same-length : tie.Need-same-length
-same-length c = search needs
-
 returns : tie.Need-returns
 returns c =
     let painted : tie.After-refresh = search in let followed : tie.After-follow = search in
@@ -49,6 +43,8 @@ returns c =
     shows-so _ _ _ _ _ texts frame long _ (seen .cursor .ensures) _ (followed .follow .ensures) _ _ _ (painted .refresh .ensures) recall sound
 
 pub show-spec : {M : Type 1} → statement M
-show-spec =
-    tie.close
-    (tie.spec cursor-requires follow-requires refresh-requires sub-t13 sub-t14 same-length returns)
+show-spec = tie.close (tie.spec
+    (λ c κs. search needs)  -- cursor-requires
+    follow-requires refresh-requires sub-t13 sub-t14
+    (λ c. search needs)  -- same-length
+    returns)

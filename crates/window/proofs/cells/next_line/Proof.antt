@@ -5,9 +5,6 @@ use borrow.Author.Tests.{eq-eqb, ne-eqb, not-true, not-false}
 use Rattle.window.proofs.cells.next_line.Statement.{statement}
 use Rattle.window.proofs.cells.next_line.Tie as tie
 
-returns : tie.Need-returns
-returns c = rw (not-true (c .before .args .changed) (c .if1 .taken))
-
 returns-2 : tie.Need-returns-2
 returns-2 c =
     let args = c .before .before .before .args in
@@ -21,7 +18,7 @@ returns-3 c =
 pub next-line-spec : {M : Type 1} → statement M
 next-line-spec = tie.close (tie.spec
     (λ c. search needs)  -- add-t8
-    returns
+    (λ c. rw (not-true (c .before .args .changed) (c .if1 .taken)))  -- returns
     (λ c. search needs)  -- sub-row
     (λ c. search needs)  -- add-row
     (λ c. search needs)  -- add-t10

@@ -12,15 +12,6 @@ Inv-loop cells₀ same₀ i₀ cells same i = Blanked cells₀ cells same i
 abbrev μ-loop : tie.MeasureT-loop
 μ-loop cells₀ same₀ i₀ cells same i = length cells₀ - i
 
-loop-again : tie.Need-loop-again Inv-loop μ-loop
-loop-again c = blanked-more (c .before .before .loop .inv) (omega arith)
-
-same-length : tie.Need-same-length Inv-loop μ-loop
-same-length c = c .before .loop .inv .copied .same
-
-returns : tie.Need-returns Inv-loop μ-loop
-returns c = written-all (c .before .loop .inv) (omega arith)
-
 pub put-blanks-spec : {M : Type 1} → statement M
 put-blanks-spec = tie.close (tie.spec Inv-loop μ-loop
     (λ c. blanked-none _)  -- loop-holds
@@ -28,4 +19,6 @@ put-blanks-spec = tie.close (tie.spec Inv-loop μ-loop
     (λ c. omega arith)  -- slice-write-cells
     (λ c. omega arith)  -- add-i
     (λ c. omega arith)  -- loop-less
-    loop-again same-length returns)
+    (λ c. blanked-more (c .before .before .loop .inv) (omega arith))  -- loop-again
+    (λ c. c .before .loop .inv .copied .same)  -- same-length
+    (λ c. written-all (c .before .loop .inv) (omega arith)))  -- returns

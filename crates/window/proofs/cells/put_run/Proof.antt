@@ -16,12 +16,6 @@ abbrev μ-loop : tie.MeasureT-loop
 loop-again : tie.Need-loop-again Inv-loop μ-loop
 loop-again c = written-more (c .before .before .before .loop .inv) (c .before .before .loop-test .taken) refl
 
-same-length : tie.Need-same-length Inv-loop μ-loop
-same-length c = c .before .loop .inv .copied .same
-
-returns : tie.Need-returns Inv-loop μ-loop
-returns c = written-all (c .before .loop .inv) (c .loop-test .left)
-
 pub put-run-spec : {M : Type 1} → statement M
 put-run-spec = tie.close (tie.spec Inv-loop μ-loop
     (λ c. written-none _ _ (c .pre))  -- loop-holds
@@ -30,4 +24,6 @@ put-run-spec = tie.close (tie.spec Inv-loop μ-loop
     (λ c. omega arith)  -- slice-write-cells
     (λ c. omega arith)  -- add-i
     (λ c. omega arith)  -- loop-less
-    loop-again same-length returns)
+    loop-again
+    (λ c. c .before .loop .inv .copied .same)  -- same-length
+    (λ c. written-all (c .before .loop .inv) (c .loop-test .left)))  -- returns

@@ -5,15 +5,9 @@ use Rattle.window.specs.Rules.Host.{keyFrom}
 use Rattle.window.proofs.host_keys.key_from.Statement.{statement}
 use Rattle.window.proofs.host_keys.key_from.Tie as tie
 
-insert-key-requires : tie.Need-insert-key-requires
-insert-key-requires c κs = search needs
-
 returns : tie.Need-returns
 unfolding keyFrom
 returns c = rw (c .before .if1 .taken) (c .insert-key .ensures)
-
-function-key-requires : tie.Need-function-key-requires
-function-key-requires c κs = search needs
 
 returns-2 : tie.Need-returns-2
 unfolding keyFrom
@@ -26,9 +20,6 @@ returns-3 c = rw (c .if3 .taken)
 returns-4 : tie.Need-returns-4
 unfolding keyFrom
 returns-4 c = rw (c .if4 .taken)
-
-find-key-requires : tie.Need-find-key-requires
-find-key-requires c κs = search needs
 
 returns-5 : tie.Need-returns-5
 unfolding keyFrom
@@ -50,16 +41,10 @@ returns-7 c =
     (rw (other _ (fourth .if4 .left), other _ (fifth .if5 .left), other _ (c .if6 .left)))
 
 pub key-from-spec : {M : Type 1} → statement M
-key-from-spec =
-    tie.close
-    (tie.spec
-    insert-key-requires
+key-from-spec = tie.close (tie.spec
+    (λ c κs. search needs)  -- insert-key-requires
     returns
-    function-key-requires
-    returns-2
-    returns-3
-    returns-4
-    find-key-requires
-    returns-5
-    returns-6
-    returns-7)
+    (λ c κs. search needs)  -- function-key-requires
+    returns-2 returns-3 returns-4
+    (λ c κs. search needs)  -- find-key-requires
+    returns-5 returns-6 returns-7)

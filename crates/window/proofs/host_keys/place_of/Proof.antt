@@ -3,18 +3,6 @@ use borrow.Author.Tests.{ne-eqb}
 use Rattle.window.proofs.host_keys.place_of.Statement.{statement}
 use Rattle.window.proofs.host_keys.place_of.Tie as tie
 
-returns : tie.Need-returns
-returns c = rw (c .if1 .taken)
-
-returns-2 : tie.Need-returns-2
-returns-2 c = rw (c .if2 .taken)
-
-returns-3 : tie.Need-returns-3
-returns-3 c = rw (c .if3 .taken)
-
-returns-4 : tie.Need-returns-4
-returns-4 c = rw (c .if4 .taken)
-
 returns-5 : tie.Need-returns-5
 returns-5 c =
     let third = c .before in
@@ -23,4 +11,9 @@ returns-5 c =
     rw (other _ (second .before .if1 .left), other _ (second .if2 .left), other _ (third .if3 .left), other _ (c .if4 .left))
 
 pub place-of-spec : {M : Type 1} → statement M
-place-of-spec = tie.close (tie.spec returns returns-2 returns-3 returns-4 returns-5)
+place-of-spec = tie.close (tie.spec
+    (λ c. rw (c .if1 .taken))  -- returns
+    (λ c. rw (c .if2 .taken))  -- returns-2
+    (λ c. rw (c .if3 .taken))  -- returns-3
+    (λ c. rw (c .if4 .taken))  -- returns-4
+    returns-5)

@@ -27,13 +27,11 @@ loop-again c =
 same-length : tie.Need-same-length Inv-loop μ-loop
 same-length c = c .before .loop .inv .easel .long ∙ sym (c .before .before .before .before .pre .0 .long)
 
-returns : tie.Need-returns Inv-loop μ-loop
-returns c = finished-all (c .before .loop .inv) (c .loop-test .left)
-
 pub finish-spec : {M : Type 1} → statement M
 finish-spec = tie.close (tie.spec Inv-loop μ-loop
     (λ c. omega arith)  -- add-bottom
     loop-holds end-row-requires
     (λ c. omega arith)  -- add-y
     (λ c. omega arith)  -- loop-less
-    loop-again same-length returns)
+    loop-again same-length
+    (λ c. finished-all (c .before .loop .inv) (c .loop-test .left)))  -- returns

@@ -21,9 +21,6 @@ returns c = run-ends (c .before .before .before .loop .inv) (λ _. c .if1 .taken
 loop-again : tie.Need-loop-again Inv-loop μ-loop
 loop-again c = unbroken-both (c .before .before .before .loop .inv) (unbroken-byte (omega arith) (omega arith) (c .if1 .left))
 
-returns-2 : tie.Need-returns-2 Inv-loop μ-loop
-returns-2 c = run-ends (c .before .loop .inv) (λ h. absurd (omega arith))
-
 pub run-end-spec : {M : Type 1} → statement M
 run-end-spec = tie.close (tie.spec Inv-loop μ-loop
     (λ c κs. search needs)  -- front-without-requires
@@ -32,4 +29,5 @@ run-end-spec = tie.close (tie.spec Inv-loop μ-loop
     returns
     (λ c. omega arith)  -- add-e
     (λ c. omega arith)  -- loop-less
-    loop-again returns-2)
+    loop-again
+    (λ c. run-ends (c .before .loop .inv) (λ h. absurd (omega arith))))  -- returns-2

@@ -14,9 +14,6 @@ Inv-loop w first last screen out₀ at rows next₀ i₀ out next i = RowsSent w
 abbrev μ-loop : tie.MeasureT-loop
 μ-loop w first last screen out₀ at rows next₀ i₀ out next i = rows - i
 
-loop-holds : tie.Need-loop-holds Inv-loop μ-loop
-loop-holds c = sent-none (omega (arith, c .before .before .before .pre .1))
-
 sub-put-row : tie.Need-sub-put-row Inv-loop μ-loop
 sub-put-row c =
     let counted = c .before .before in
@@ -46,9 +43,6 @@ loop-again c =
     let number = row-number (counted .before .before .before .pre .0) (counted .row-count .ensures) (turn .loop-test .taken) in
     sent-more (turn .before .loop .inv) (turn .loop-test .taken) (rw number at (c .before .before .put-row .ensures))
 
-same-length : tie.Need-same-length Inv-loop μ-loop
-same-length c = wrote-length (c .before .loop .inv .wrote)
-
 returns : tie.Need-returns Inv-loop μ-loop
 unfolding sentRows
 returns c = rw (c .before .before .row-count .ensures) at (sent-all (c .before .loop .inv) (c .loop-test .left))
@@ -56,7 +50,10 @@ returns c = rw (c .before .before .row-count .ensures) at (sent-all (c .before .
 pub put-rows-spec : {M : Type 1} → statement M
 put-rows-spec = tie.close (tie.spec Inv-loop μ-loop
     (λ c κs. search needs)  -- row-count-requires
-    loop-holds sub-put-row add-put-row put-row-requires
+    (λ c. sent-none (omega (arith, c .before .before .before .pre .1)))  -- loop-holds
+    sub-put-row add-put-row put-row-requires
     (λ c. search needs)  -- add-i
     (λ c. omega arith)  -- loop-less
-    loop-again same-length returns)
+    loop-again
+    (λ c. wrote-length (c .before .loop .inv .wrote))  -- same-length
+    returns)
