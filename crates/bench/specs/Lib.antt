@@ -1,8 +1,5 @@
--- The definitions of the bench program, in reading order. docs/RULES.md has the same rules in prose.
+-- The definitions of the bench layer: the words they speak with, the rules, the wording of contracts, tables of examples.
 pub mod Words
-pub mod Names
-pub mod Script
-pub mod Print
-pub mod Run
-pub mod Turns
-pub mod Samples
+pub mod Rules
+pub mod Wording
+pub mod Tables

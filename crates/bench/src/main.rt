@@ -17,8 +17,8 @@ use gap::Direction;
 use window::Session;
 ghost use Prim.Native.Nat.{_+_, _≤_, _<_};
 ghost use lib.ListN.{length};
-ghost use Rattle.window.specs.Calls.{lent};
-ghost use Rattle.bench.specs.Turns.{AsAsked};
+ghost use Rattle.window.specs.Wording.Calls.{lent};
+ghost use Rattle.bench.specs.Wording.Turns.{AsAsked};
 
 // What the four header lines say, and where the text stands in the input.
 pub struct Header {

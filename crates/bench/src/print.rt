@@ -7,9 +7,9 @@ ghost use mathlib.Core.Path.{_≡_};
 ghost use mathlib.Core.List.{_++_};
 ghost use Prim.Native.Nat.{_+_, _*_, _≤_};
 ghost use lib.ListN.{length};
-ghost use Rattle.gap.specs.Fields.{entry};
-ghost use Rattle.gap.specs.Written.{Wrote};
-ghost use Rattle.bench.specs.Print.{rowsOf, acceptedBlock, refusedBlock, scriptLine, answerOf, Printable};
+ghost use Rattle.gap.specs.Rules.Fields.{entry};
+ghost use Rattle.gap.specs.Wording.Written.{Wrote};
+ghost use Rattle.bench.specs.Rules.Print.{rowsOf, acceptedBlock, refusedBlock, scriptLine, Printable};
 
 // Two entries.
 fn put_two(word: &[u8], n: usize, other: &[u8], m: usize, out: &mut [u8], at: usize) -> usize
@@ -53,10 +53,18 @@ fn put_rows(h: usize, w: usize, screen: &[u8], out: &mut [u8], at: usize) -> usi
 pub fn put_accepted(a: Answer, h: usize, w: usize, screen: &[u8], out: &mut [u8]) -> usize
     requires { ⌜ Printable h w (now screen) ⌝ }
     requires { ⌜ 17408 ≤ length (now out) ⌝ }
-    ensures { λ n. ⌜ Wrote 0 (acceptedBlock h w (answerOf a) (now (screen .entry))) (now (out .entry)) n (now (out .exit)) ⌝ }
+    ensures { λ n. ⌜ Wrote 0 (acceptedBlock h w a (now (screen .entry))) (now (out .entry)) n (now (out .exit)) ⌝ }
 {
+    let report = a.report;
     let steps_at = put_entry(b"code=", 0, out, 0);
-    let first_at = put_two(b"steps=", a.steps, b"bell=", bit_of(a.bell), out, steps_at);
+    let first_at = put_two(
+        b"steps=",
+        report.steps,
+        b"bell=",
+        bit_of(report.bell),
+        out,
+        steps_at,
+    );
     let row_at = put_two(b"first=", a.first, b"last=", a.last, out, first_at);
     let lines_at = put_two(b"row=", a.row, b"col=", a.column, out, row_at);
     put_rows(h, w, screen, out, lines_at)

@@ -21,13 +21,13 @@ ghost use mathlib.Core.Path.{_≡_};
 ghost use mathlib.Core.Bool.{false};
 ghost use Prim.Native.Nat.{_+_, _≤_, _<_};
 ghost use lib.ListN.{length, take};
-ghost use Rattle.gap.specs.Sequence.{part, patch};
-ghost use Rattle.gap.specs.Written.{Wrote};
-ghost use Rattle.window.specs.Calls.{lent};
+ghost use Rattle.gap.specs.Rules.Sequence.{part, patch};
+ghost use Rattle.gap.specs.Wording.Written.{Wrote};
+ghost use Rattle.window.specs.Wording.Calls.{lent};
 ghost use Rattle.bench.specs.declared.Heading.the-variants.{Headed};
-ghost use Rattle.bench.specs.Print.{answerOf, block, Printable};
-ghost use Rattle.bench.specs.Run.{unlessLarge, beginning, screenSize, openingTurn, pressedTurn, nextTurn};
-ghost use Rattle.bench.specs.Turns.{stateOf, Does, Onward};
+ghost use Rattle.bench.specs.Rules.Print.{block, Printable};
+ghost use Rattle.bench.specs.Rules.Run.{unlessLarge, beginning, screenSize, openingTurn, pressedTurn, nextTurn};
+ghost use Rattle.bench.specs.Wording.Turns.{stateOf, Does, Onward};
 
 // The most bytes that a script may have, and the largest store that it may ask for.
 const LONGEST_INPUT: usize = 8192;
@@ -83,7 +83,7 @@ fn lay_out(input: &[u8], at: usize, n: usize, text: &mut [u8])
 fn put_block(a: Answer, h: usize, w: usize, screen: &[u8], out: &mut [u8]) -> usize
     requires { ⌜ (a .code ≡ 0 → Printable h w (now screen)) ⌝ }
     requires { ⌜ 17408 ≤ length (now out) ⌝ }
-    ensures { λ n. ⌜ Wrote 0 (block h w (answerOf a) (now (screen .entry))) (now (out .entry)) n (now (out .exit)) ⌝ }
+    ensures { λ n. ⌜ Wrote 0 (block h w a (now (screen .entry))) (now (out .entry)) n (now (out .exit)) ⌝ }
 {
     let code = a.code;
     if 0 < code {

@@ -12,7 +12,7 @@ use gap::fields::next_at;
 ghost use mathlib.Core.Path.{_≡_};
 ghost use Prim.Native.Nat.{_≤_};
 ghost use lib.ListN.{length};
-ghost use Rattle.bench.specs.Script.{textThere, headingOf, keyOf, readingAt};
+ghost use Rattle.bench.specs.Rules.Script.{textThere, headingOf, keyOf, readingAt};
 
 // Numbers have at most so many digits.
 pub const DIGITS: usize = 5;

@@ -12,8 +12,8 @@ use gap::compare::same_bytes;
 use gap::decimals::number_of;
 ghost use mathlib.Core.Path.{_≡_};
 ghost use Prim.Native.Nat.{_<_};
-ghost use Rattle.gap.specs.Sequence.{sameBytes};
-ghost use Rattle.bench.specs.Names.{nameOf, combinationAt, functionOf, entryOf, functionNamed, insertNumbered, keyNamed};
+ghost use Rattle.gap.specs.Rules.Sequence.{sameBytes};
+ghost use Rattle.bench.specs.Rules.Names.{nameOf, combinationAt, functionOf, entryOf, functionNamed, insertNumbered, keyNamed};
 
 // All 20 function keys, by action, direction and place; the two that get KEY are among them.
 const TABLE: [Entry; 20] = [

@@ -3,7 +3,7 @@ pub mod Quarters
 pub mod Session
 pub mod Outcomes
 pub mod Sides
-pub mod Turns
+pub mod SideEdits
 pub mod States
 pub mod MatchTests
 pub mod MatchScans
@@ -14,3 +14,4 @@ pub mod HandedOver
 pub mod Fitting
 pub mod FindReplace
 pub mod ReplaceRoom
+pub mod Opening

@@ -1,8 +1,4 @@
--- The definitions of the editor layer, in reading order. docs/RULES.md has the same rules in prose.
+-- The definitions of the editor layer: the words they speak with, the rules, the wording of contracts.
 pub mod Words
-pub mod Places
-pub mod Plain
-pub mod Keys
-pub mod Bytes
-pub mod Promise
-pub mod Searches
+pub mod Rules
+pub mod Wording

@@ -18,3 +18,4 @@ pub use Rattle.editor.specs.declared.Key.{Key}
 pub use Rattle.editor.specs.declared.Key.the-variants.{Insert, Function, Recall, Quote, Find, Replace}
 pub use Rattle.editor.specs.declared.Sizes.{Sizes}
 pub use Rattle.editor.specs.declared.Lengths.{Lengths}
+pub use Rattle.editor.specs.declared.Report.{Report}

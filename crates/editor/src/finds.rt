@@ -10,12 +10,12 @@ ghost use mathlib.Core.List.{List, _++_};
 ghost use Prim.Native.Nat.{ℕ, _+_, _-_, _≤_, _<_};
 ghost use lib.ListN.{length, drop};
 ghost use Rattle.gap.specs.declared.Direction.the-variants.{Left, Right};
-ghost use Rattle.gap.specs.Sequence.{every, begins, counted};
-ghost use Rattle.gap.specs.Doc.{content};
-ghost use Rattle.gap.specs.Nearest.{nearest, distance};
-ghost use Rattle.gap.specs.Layout.{ungap};
-ghost use Rattle.editor.specs.Keys.{matches};
-ghost use Rattle.editor.specs.Searches.{lowest, matchAway, matchLeft, Reach, likelyAt, Telling};
+ghost use Rattle.gap.specs.Rules.Sequence.{every, begins, counted};
+ghost use Rattle.gap.specs.Rules.Doc.{content};
+ghost use Rattle.gap.specs.Rules.Nearest.{nearest, distance};
+ghost use Rattle.gap.specs.Rules.Layout.{ungap};
+ghost use Rattle.editor.specs.Rules.Keys.{matches};
+ghost use Rattle.editor.specs.Wording.Searches.{lowest, matchAway, matchLeft, Reach, likelyAt, Telling};
 
 // Two runs, the second behind the first, have the pattern at their front: each has its part of it.
 fn runs_begin(x: &[u8], y: &[u8], pattern: &[u8]) -> bool
@@ -95,7 +95,7 @@ fn none_likely(t: &[u8], at: usize, pattern: &[u8], k: usize) -> bool
 }
 
 // The lowest of the places that are d to e bytes away, so that either direction reads a block from its front.
-fn lowest_place(way: Direction, n: usize, d: usize, e: usize) -> usize
+pub fn lowest_place(way: Direction, n: usize, d: usize, e: usize) -> usize
     requires { ⌜ e ≤ n ⌝ }
     ensures { λ at. ⌜ at ≡ lowest way n d e ⌝ }
 {

@@ -2,8 +2,12 @@
 pub mod finds;
 pub mod keys;
 pub mod places;
-pub mod sessions;
+pub mod quotations;
+pub mod records;
+pub mod refusals;
+pub mod searches;
 pub mod sides;
+pub mod stores;
 
 use gap::Direction;
 
@@ -67,18 +71,22 @@ pub struct Lengths {
     pub mode: Mode,
 }
 
-// What a key on one side answers: refused as full, or its steps, its bell and the sizes now.
-pub struct Turn {
-    pub full: bool,
+// What a key reports: its steps and its bell.
+pub struct Report {
     pub steps: usize,
     pub bell: bool,
+}
+
+// What a key on one side replies: refused as full, or its report, and the sizes now.
+pub struct SideReply {
+    pub full: bool,
+    pub report: Report,
     pub sizes: Sizes,
 }
 
-// What the key call answers: 0 or a refusal's number, steps, bell and the lengths now.
-pub struct Reply {
+// What this layer's key call replies: 0 or a refusal's number, its report, and the lengths now.
+pub struct EditorReply {
     pub code: usize,
-    pub steps: usize,
-    pub bell: bool,
+    pub report: Report,
     pub lengths: Lengths,
 }

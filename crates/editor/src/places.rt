@@ -1,16 +1,17 @@
 // Places, and the distance to the nearest one. Going left only the text left of the cursor matters, going right only the other.
 use crate::Place;
+use crate::finds::lowest_place;
 use gap::Direction;
 use gap::Search;
 ghost use mathlib.Core.Path.{_≡_};
 ghost use mathlib.Core.List.{List};
 ghost use Prim.Native.Nat.{ℕ, _+_, _≤_};
 ghost use lib.ListN.{length, take, drop};
-ghost use Rattle.gap.specs.declared.Direction.the-variants.{Left, Right};
-ghost use Rattle.gap.specs.Nearest.{distance};
-ghost use Rattle.gap.specs.Layout.{ungap};
-ghost use Rattle.editor.specs.Places.{lineBeginning, lineEnding, word, isAt};
-ghost use Rattle.editor.specs.Promise.{wholeOf};
+ghost use Rattle.gap.specs.Rules.Nearest.{distance};
+ghost use Rattle.gap.specs.Rules.Layout.{ungap};
+ghost use Rattle.editor.specs.Rules.Places.{lineBeginning, lineEnding, word, isAt};
+ghost use Rattle.editor.specs.Wording.Promise.{wholeOf};
+ghost use Rattle.editor.specs.Wording.Searches.{facing};
 
 // Place p of a text is a line beginning.
 pub fn line_beginning_at(t: &[u8], p: usize) -> bool
@@ -73,14 +74,15 @@ pub fn stands(place: Place, way: Direction, t: &[u8], p: usize) -> bool
     }
 }
 
-// The distance to the left, over the text left of the cursor, byte by byte as far as the place.
-fn scan_left(place: Place, t: &[u8]) -> Search
-    ensures { λ s. ⌜ ((r : List ℕ) → s ≡ distance Left (isAt place Left) (record { l = now (t .entry); r = r })) ⌝ }
+// The distance over the text that lies in the direction, byte by byte as far as the place.
+fn scan(place: Place, way: Direction, t: &[u8]) -> Search
+    ensures { λ s. ⌜ ((other : List ℕ) → s ≡ distance way (isAt place way) (facing way (now (t .entry)) other)) ⌝ }
 {
     let n = t.len();
     let mut d = 1;
     while d <= n {
-        if stands(place, Direction::Left, t, n - d) {
+        let p = lowest_place(way, n, d, d);
+        if stands(place, way, t, p) {
             return Search::Reached(d);
         }
         d += 1;
@@ -88,38 +90,13 @@ fn scan_left(place: Place, t: &[u8]) -> Search
     Search::Nowhere
 }
 
-// The distance to the right, over the text right of the cursor: place p of it is p moves away.
-fn scan_right(place: Place, t: &[u8]) -> Search
-    ensures { λ s. ⌜ ((l : List ℕ) → s ≡ distance Right (isAt place Right) (record { l = l; r = now (t .entry) })) ⌝ }
-{
-    let n = t.len();
-    let mut p = 1;
-    while p <= n {
-        if stands(place, Direction::Right, t, p) {
-            return Search::Reached(p);
-        }
-        p += 1;
-    }
-    Search::Nowhere
-}
-
-// The distance to the left; to the end of the text there is nothing to look for.
-pub fn distance_left(place: Place, t: &[u8]) -> Search
-    ensures { λ s. ⌜ ((r : List ℕ) → s ≡ distance Left (isAt place Left) (record { l = now (t .entry); r = r })) ⌝ }
+// The same; to the end of the text there is nothing to look for.
+fn text_distance(place: Place, way: Direction, t: &[u8]) -> Search
+    ensures { λ s. ⌜ ((other : List ℕ) → s ≡ distance way (isAt place way) (facing way (now (t .entry)) other)) ⌝ }
 {
     match place {
         Place::Document => whole(t),
-        _ => scan_left(place, t),
-    }
-}
-
-// The same to the right.
-pub fn distance_right(place: Place, t: &[u8]) -> Search
-    ensures { λ s. ⌜ ((l : List ℕ) → s ≡ distance Right (isAt place Right) (record { l = l; r = now (t .entry) })) ⌝ }
-{
-    match place {
-        Place::Document => whole(t),
-        _ => scan_right(place, t),
+        _ => scan(place, way, t),
     }
 }
 
@@ -140,10 +117,10 @@ pub fn place_distance(place: Place, way: Direction, s: &[u8], l: usize, r: usize
     ensures { λ d. ⌜ d ≡ distance way (isAt place way) (ungap l r (now (s .entry))) ⌝ }
 {
     match way {
-        Direction::Left => distance_left(place, &s[..l]),
+        Direction::Left => text_distance(place, way, &s[..l]),
         Direction::Right => {
             let back = s.len() - r;
-            distance_right(place, &s[back..])
+            text_distance(place, way, &s[back..])
         }
     }
 }

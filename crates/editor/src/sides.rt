@@ -1,10 +1,17 @@
-// Keys on one side: a text in a gap store and its recall text in a pair store of the same length.
+// Keys on one side: a text in a gap store and its recall text in a pair store of the same length. A key that leaves the recall text
+// alone is not lent it, or lent it for reading.
 use crate::Action;
 use crate::Edit;
 use crate::Place;
+use crate::SideReply;
 use crate::Sizes;
-use crate::Turn;
 use crate::places::place_distance;
+use crate::records::QUIET;
+use crate::records::RANG;
+use crate::records::done;
+use crate::records::full;
+use crate::records::moved_by;
+use crate::records::went;
 use gap::Direction;
 use gap::Search;
 use gap::runs::clear;
@@ -15,32 +22,19 @@ use gap::texts::move_left;
 use gap::texts::move_right;
 use gap::texts::place_pair;
 ghost use mathlib.Core.Path.{_≡_};
-ghost use mathlib.Core.Bool.{true, false};
-ghost use Prim.Native.Nat.{_+_, _^_, _≤_, _<_};
+ghost use Prim.Native.Nat.{_≤_};
 ghost use lib.ListN.{length};
-ghost use Rattle.gap.specs.Doc.{move, times};
-ghost use Rattle.gap.specs.Layout.{gapped, ungap, IsGap};
+ghost use Rattle.gap.specs.Rules.Doc.{move, times};
+ghost use Rattle.gap.specs.Rules.Layout.{gapped, ungap, IsGap};
 ghost use Rattle.gap.specs.declared.Search.the-variants.{Reached, Nowhere};
 ghost use Rattle.editor.specs.declared.Action.the-variants.{Move, Delete};
-ghost use Rattle.editor.specs.Keys.{inserted, carried, function, recalled};
-ghost use Rattle.editor.specs.Promise.{roomOf, shiftedBy, OnSide, Turns, editing};
-
-// Refused as full: nothing moves.
-fn full(n: Sizes) -> Turn
-    ensures { λ t. ⌜ t ≡ record { full = true; steps = 0; bell = false; sizes = n } ⌝ }
-{
-    Turn {
-        full: true,
-        steps: 0,
-        bell: false,
-        sizes: n,
-    }
-}
+ghost use Rattle.editor.specs.Rules.Keys.{inserted, carried, function, recalled};
+ghost use Rattle.editor.specs.Wording.Promise.{roomOf, OnSide, EditsSide, EditsText, editing};
 
 // A byte goes in. Whether it fits is known before anything is written.
-pub fn insert_side(b: u8, n: Sizes, text: &mut [u8], recall: &mut [u8]) -> Turn
-    requires { ⌜ OnSide n (now text) (now recall) ⌝ }
-    ensures { λ t. ⌜ Turns t n (inserted b) (now (text .entry)) (now (recall .entry)) (now (text .exit)) (now (recall .exit)) ⌝ }
+pub fn insert_side(b: u8, n: Sizes, text: &mut [u8]) -> SideReply
+    requires { ⌜ IsGap (n .l) (n .r) (now text) ⌝ }
+    ensures { λ t. ⌜ EditsText t n (inserted b) (now (text .entry)) (now (text .exit)) ⌝ }
 {
     let l = n.l;
     let r = n.r;
@@ -48,21 +42,13 @@ pub fn insert_side(b: u8, n: Sizes, text: &mut [u8], recall: &mut [u8]) -> Turn
         return full(n);
     }
     insert(text, l, r, b);
-    Turn {
-        full: false,
-        steps: 0,
-        bell: false,
-        sizes: Sizes {
-            l: l + 1,
-            r: r,
-            rl: n.rl,
-            rr: n.rr,
-        },
-    }
+    let mut m = n;
+    m.l = l + 1;
+    done(QUIET, m)
 }
 
 // The cursor of a gap store goes d bytes.
-pub fn shift(way: Direction, d: usize, l: usize, r: usize, text: &mut [u8])
+pub fn move_cursor(way: Direction, d: usize, l: usize, r: usize, text: &mut [u8])
     requires { ⌜ IsGap l r (now text) ⌝ }
     requires { ⌜ d ≤ roomOf way (record { l = l; r = r; rl = 0; rr = 0 }) ⌝ }
     ensures { λ _. ⌜ now (text .exit) ≡ gapped (length (now (text .entry))) (times (move way) d (ungap l r (now (text .entry)))) ⌝ }
@@ -73,84 +59,46 @@ pub fn shift(way: Direction, d: usize, l: usize, r: usize, text: &mut [u8])
     }
 }
 
-// The sizes after that.
-pub fn shifted(way: Direction, d: usize, n: Sizes) -> Sizes
-    requires { ⌜ d ≤ roomOf way n ⌝ }
-    requires { ⌜ n .l + n .r < 2 ^ 64 ⌝ }
-    ensures { λ m. ⌜ m ≡ shiftedBy way d n ⌝ }
-{
-    let l = n.l;
-    let r = n.r;
-    match way {
-        Direction::Left => Sizes {
-            l: l - d,
-            r: r + d,
-            rl: n.rl,
-            rr: n.rr,
-        },
-        Direction::Right => Sizes {
-            l: l + d,
-            r: r - d,
-            rl: n.rl,
-            rr: n.rr,
-        },
-    }
-}
-
 // A move of d bytes.
-pub fn move_side(way: Direction, d: usize, n: Sizes, text: &mut [u8], recall: &mut [u8]) -> Turn
-    requires { ⌜ OnSide n (now text) (now recall) ⌝ }
+pub fn move_side(way: Direction, d: usize, n: Sizes, text: &mut [u8]) -> SideReply
+    requires { ⌜ IsGap (n .l) (n .r) (now text) ⌝ }
     requires { ⌜ d ≤ roomOf way n ⌝ }
-    ensures { λ t. ⌜ Turns t n (carried Move way (Reached d)) (now (text .entry)) (now (recall .entry)) (now (text .exit)) (now (recall .exit)) ⌝ }
+    ensures { λ t. ⌜ EditsText t n (carried Move way (Reached d)) (now (text .entry)) (now (text .exit)) ⌝ }
 {
-    let l = n.l;
-    let r = n.r;
-    let sizes = shifted(way, d, n);
-    shift(way, d, l, r, text);
-    Turn {
-        full: false,
-        steps: d,
-        bell: false,
-        sizes: sizes,
-    }
+    let m = moved_by(way, d, n);
+    move_cursor(way, d, n.l, n.r, text);
+    done(went(d), m)
 }
 
 // The d bytes that a move would cross go over into the recall text.
-pub fn delete_side(way: Direction, d: usize, n: Sizes, text: &mut [u8], recall: &mut [u8]) -> Turn
+pub fn delete_side(
+    way: Direction,
+    d: usize,
+    n: Sizes,
+    text: &mut [u8],
+    recall: &mut [u8],
+) -> SideReply
     requires { ⌜ OnSide n (now text) (now recall) ⌝ }
     requires { ⌜ d ≤ roomOf way n ⌝ }
-    ensures { λ t. ⌜ Turns t n (carried Delete way (Reached d)) (now (text .entry)) (now (recall .entry)) (now (text .exit)) (now (recall .exit)) ⌝ }
+    ensures { λ t. ⌜ EditsSide t n (carried Delete way (Reached d)) (now (text .entry)) (now (recall .entry)) (now (text .exit)) (now (recall .exit)) ⌝ }
 {
     let l = n.l;
     let r = n.r;
+    let mut m = n;
     match way {
         Direction::Left => {
             delete_left(text, l, r, d, recall);
-            Turn {
-                full: false,
-                steps: d,
-                bell: false,
-                sizes: Sizes {
-                    l: l - d,
-                    r: r,
-                    rl: d,
-                    rr: 0,
-                },
-            }
+            m.l = l - d;
+            m.rl = d;
+            m.rr = 0;
+            done(went(d), m)
         }
         Direction::Right => {
             delete_right(text, l, r, d, recall);
-            Turn {
-                full: false,
-                steps: d,
-                bell: false,
-                sizes: Sizes {
-                    l: l,
-                    r: r - d,
-                    rl: 0,
-                    rr: d,
-                },
-            }
+            m.r = r - d;
+            m.rl = 0;
+            m.rr = d;
+            done(went(d), m)
         }
     }
 }
@@ -160,32 +108,20 @@ pub fn bell_side(
     action: Action,
     way: Direction,
     n: Sizes,
-    text: &mut [u8],
+    text: &[u8],
     recall: &mut [u8],
-) -> Turn
+) -> SideReply
     requires { ⌜ OnSide n (now text) (now recall) ⌝ }
-    ensures { λ t. ⌜ Turns t n (carried action way Nowhere) (now (text .entry)) (now (recall .entry)) (now (text .exit)) (now (recall .exit)) ⌝ }
+    ensures { λ t. ⌜ EditsSide t n (carried action way Nowhere) (now (text .entry)) (now (recall .entry)) (now (text .entry)) (now (recall .exit)) ⌝ }
 {
     match action {
-        Action::Move => Turn {
-            full: false,
-            steps: 0,
-            bell: true,
-            sizes: n,
-        },
+        Action::Move => done(RANG, n),
         Action::Delete => {
             clear(recall);
-            Turn {
-                full: false,
-                steps: 0,
-                bell: true,
-                sizes: Sizes {
-                    l: n.l,
-                    r: n.r,
-                    rl: 0,
-                    rr: 0,
-                },
-            }
+            let mut m = n;
+            m.rl = 0;
+            m.rr = 0;
+            done(RANG, m)
         }
     }
 }
@@ -198,13 +134,13 @@ fn carry_side(
     n: Sizes,
     text: &mut [u8],
     recall: &mut [u8],
-) -> Turn
+) -> SideReply
     requires { ⌜ OnSide n (now text) (now recall) ⌝ }
     requires { ⌜ d ≤ roomOf way n ⌝ }
-    ensures { λ t. ⌜ Turns t n (carried action way (Reached d)) (now (text .entry)) (now (recall .entry)) (now (text .exit)) (now (recall .exit)) ⌝ }
+    ensures { λ t. ⌜ EditsSide t n (carried action way (Reached d)) (now (text .entry)) (now (recall .entry)) (now (text .exit)) (now (recall .exit)) ⌝ }
 {
     match action {
-        Action::Move => move_side(way, d, n, text, recall),
+        Action::Move => move_side(way, d, n, text),
         Action::Delete => delete_side(way, d, n, text, recall),
     }
 }
@@ -217,9 +153,9 @@ pub fn function_side(
     n: Sizes,
     text: &mut [u8],
     recall: &mut [u8],
-) -> Turn
+) -> SideReply
     requires { ⌜ OnSide n (now text) (now recall) ⌝ }
-    ensures { λ t. ⌜ Turns t n (function action way place) (now (text .entry)) (now (recall .entry)) (now (text .exit)) (now (recall .exit)) ⌝ }
+    ensures { λ t. ⌜ EditsSide t n (function action way place) (now (text .entry)) (now (recall .entry)) (now (text .exit)) (now (recall .exit)) ⌝ }
 {
     let l = n.l;
     let r = n.r;
@@ -230,9 +166,9 @@ pub fn function_side(
 }
 
 // The recall pair goes in around the cursor, if it fits.
-pub fn recall_side(n: Sizes, text: &mut [u8], recall: &mut [u8]) -> Turn
+pub fn recall_side(n: Sizes, text: &mut [u8], recall: &[u8]) -> SideReply
     requires { ⌜ OnSide n (now text) (now recall) ⌝ }
-    ensures { λ t. ⌜ Turns t n recalled (now (text .entry)) (now (recall .entry)) (now (text .exit)) (now (recall .exit)) ⌝ }
+    ensures { λ t. ⌜ EditsSide t n recalled (now (text .entry)) (now (recall .entry)) (now (text .exit)) (now (recall .entry)) ⌝ }
 {
     let l = n.l;
     let r = n.r;
@@ -242,26 +178,19 @@ pub fn recall_side(n: Sizes, text: &mut [u8], recall: &mut [u8]) -> Turn
         return full(n);
     }
     place_pair(text, l, r, recall, rl, rr);
-    Turn {
-        full: false,
-        steps: 0,
-        bell: false,
-        sizes: Sizes {
-            l: l + rl,
-            r: r + rr,
-            rl: rl,
-            rr: rr,
-        },
-    }
+    let mut m = n;
+    m.l = l + rl;
+    m.r = r + rr;
+    done(QUIET, m)
 }
 
 // A key on one side.
-pub fn on_side(e: Edit, n: Sizes, text: &mut [u8], recall: &mut [u8]) -> Turn
+pub fn on_side(e: Edit, n: Sizes, text: &mut [u8], recall: &mut [u8]) -> SideReply
     requires { ⌜ OnSide n (now text) (now recall) ⌝ }
-    ensures { λ t. ⌜ Turns t n (editing e) (now (text .entry)) (now (recall .entry)) (now (text .exit)) (now (recall .exit)) ⌝ }
+    ensures { λ t. ⌜ EditsSide t n (editing e) (now (text .entry)) (now (recall .entry)) (now (text .exit)) (now (recall .exit)) ⌝ }
 {
     match e {
-        Edit::Insert(b) => insert_side(b, n, text, recall),
+        Edit::Insert(b) => insert_side(b, n, text),
         Edit::Function(action, way, place) => function_side(action, way, place, n, text, recall),
         Edit::Recall => recall_side(n, text, recall),
     }

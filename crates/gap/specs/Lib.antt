@@ -1,12 +1,4 @@
--- The definitions of the gap layer, in reading order. docs/RULES.md has the same rules in prose.
+-- The definitions of the gap layer: the words they speak with, the rules, the wording of contracts.
 pub mod Words
-pub mod Sequence
-pub mod Strings
-pub mod Numbers
-pub mod Doc
-pub mod Nearest
-pub mod Lines
-pub mod Layout
-pub mod Decimal
-pub mod Fields
-pub mod Written
+pub mod Rules
+pub mod Wording

@@ -2,7 +2,7 @@
 ghost use mathlib.Core.Path.{_≡_};
 ghost use Prim.Native.Nat.{_≤_};
 ghost use lib.ListN.{length, drop};
-ghost use Rattle.gap.specs.Sequence.{sameBytes, begins};
+ghost use Rattle.gap.specs.Rules.Sequence.{sameBytes, begins};
 
 // Two runs of one length are the same. The loop carries a flag and has neither branch nor exit, so that it is vectorised.
 pub fn same_run(a: &[u8], b: &[u8]) -> bool

@@ -5,9 +5,9 @@ ghost use mathlib.Core.Bool.{true};
 ghost use mathlib.Core.List.{[], _∷_};
 ghost use Prim.Native.Nat.{_+_, _≤_, _<_};
 ghost use lib.ListN.{length};
-ghost use Rattle.gap.specs.Sequence.{every};
-ghost use Rattle.gap.specs.Decimal.{digit, value, wordDigits, isNumber, numberOf, decimal};
-ghost use Rattle.gap.specs.Written.{Wrote};
+ghost use Rattle.gap.specs.Rules.Sequence.{every};
+ghost use Rattle.gap.specs.Rules.Decimal.{digit, value, wordDigits, isNumber, numberOf, decimal};
+ghost use Rattle.gap.specs.Wording.Written.{Wrote};
 
 // Every byte is a digit.
 fn all_digits(s: &[u8]) -> bool

@@ -8,9 +8,9 @@ use crate::writers::put;
 ghost use mathlib.Core.Path.{_≡_};
 ghost use Prim.Native.Nat.{_+_, _≤_};
 ghost use lib.ListN.{length};
-ghost use Rattle.gap.specs.Decimal.{wordDigits};
-ghost use Rattle.gap.specs.Fields.{endAt, nextAt, lineNumber, fieldOf, headerAt, entry};
-ghost use Rattle.gap.specs.Written.{Wrote};
+ghost use Rattle.gap.specs.Rules.Decimal.{wordDigits};
+ghost use Rattle.gap.specs.Rules.Fields.{endAt, nextAt, lineNumber, fieldOf, headerAt, entry};
+ghost use Rattle.gap.specs.Wording.Written.{Wrote};
 
 // Where the line that starts at `at` ends.
 pub fn end_at(s: &[u8], at: usize) -> usize

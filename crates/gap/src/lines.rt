@@ -4,8 +4,8 @@ ghost use mathlib.Core.Bool.{not};
 ghost use Prim.Native.Nat.{_+_, _^_, _≤_, _<_};
 ghost use lib.Dec.{eqb};
 ghost use lib.ListN.{length};
-ghost use Rattle.gap.specs.Sequence.{every};
-ghost use Rattle.gap.specs.Lines.{newline, newlines, sinceAfter, Unbroken};
+ghost use Rattle.gap.specs.Rules.Sequence.{every};
+ghost use Rattle.gap.specs.Rules.Lines.{newline, newlines, sinceAfter, Unbroken};
 
 // The newlines of a short run, in a byte, so that the loop is vectorised.
 fn newlines_short(s: &[u8]) -> u8

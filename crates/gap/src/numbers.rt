@@ -1,7 +1,7 @@
 // Small reckonings with numbers.
 ghost use mathlib.Core.Path.{_≡_};
 ghost use Prim.Native.Nat.{_-_, min, max};
-ghost use Rattle.gap.specs.Numbers.{bit};
+ghost use Rattle.gap.specs.Rules.Numbers.{bit};
 
 // The smaller of two numbers.
 pub fn smaller(a: usize, b: usize) -> usize

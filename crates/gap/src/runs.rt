@@ -4,7 +4,7 @@ ghost use mathlib.Core.Path.{_≡_};
 ghost use mathlib.Core.List.{_++_};
 ghost use Prim.Native.Nat.{_+_, _-_, _≤_, _<_};
 ghost use lib.ListN.{length, take, drop};
-ghost use Rattle.gap.specs.Sequence.{part, patch, zeros};
+ghost use Rattle.gap.specs.Rules.Sequence.{part, patch, zeros};
 
 // Every byte becomes 0.
 pub fn clear(s: &mut [u8])

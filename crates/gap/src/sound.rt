@@ -5,9 +5,9 @@ ghost use mathlib.Core.Bool.{true, false, not, _&&_};
 ghost use mathlib.Core.List.{_++_};
 ghost use Prim.Native.Nat.{_+_, _-_, _≤_, _<_};
 ghost use lib.ListN.{length, take, drop, getD};
-ghost use Rattle.gap.specs.Sequence.{every, part};
-ghost use Rattle.gap.specs.Nearest.{nearest};
-ghost use Rattle.gap.specs.Layout.{printable, allowed, free, soundGap, soundPair};
+ghost use Rattle.gap.specs.Rules.Sequence.{every, part};
+ghost use Rattle.gap.specs.Rules.Nearest.{nearest};
+ghost use Rattle.gap.specs.Rules.Layout.{printable, allowed, free, soundGap, soundPair};
 
 // A byte that is printed.
 fn is_printable(b: u8) -> bool

@@ -10,8 +10,8 @@ ghost use mathlib.Core.List.{[], _∷_};
 ghost use Prim.Native.Nat.{_+_, _≤_, _<_};
 ghost use lib.ListN.{length, take};
 ghost use Rattle.gap.specs.declared.Direction.the-variants.{Left, Right};
-ghost use Rattle.gap.specs.Doc.{empty, move, delete, times, removed, splice};
-ghost use Rattle.gap.specs.Layout.{gapped, paired, ungap, unpair, IsGap};
+ghost use Rattle.gap.specs.Rules.Doc.{empty, move, delete, times, removed, splice};
+ghost use Rattle.gap.specs.Rules.Layout.{gapped, paired, ungap, unpair, IsGap};
 
 // The cursor goes d bytes left: they cross the gap.
 pub fn move_left(s: &mut [u8], l: usize, r: usize, d: usize)

@@ -2,7 +2,7 @@
 use crate::runs::copy_at;
 ghost use Prim.Native.Nat.{_+_, _≤_};
 ghost use lib.ListN.{length};
-ghost use Rattle.gap.specs.Written.{Wrote};
+ghost use Rattle.gap.specs.Wording.Written.{Wrote};
 
 // The run goes to place `at` of the store.
 pub fn put(run: &[u8], out: &mut [u8], at: usize) -> usize

@@ -16,8 +16,8 @@ pub mod KeyCall
 pub mod HostNumbers
 pub mod OpeningCall
 pub mod Sequences
-pub mod Paintable
-pub mod PaintCall
+pub mod Sendable
+pub mod SendCall
 pub mod Writer
 pub mod Machine
 pub mod SentRows

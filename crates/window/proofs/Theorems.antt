@@ -4,8 +4,8 @@ pub mod NamedRows
 pub mod Refusals
 pub mod Sessions
 pub mod DemandThree
-pub mod Painting
-pub mod PaintSamples
+pub mod Sending
+pub mod SendSamples
 pub mod Line
 pub mod OneOutcome
 pub mod Promises

@@ -1,16 +1,5 @@
--- The definitions of the window layer and of the core, in reading order. docs/RULES.md has the same rules in prose.
+-- The definitions of the window layer: the words they speak with, the rules, the wording of contracts, tables of examples.
 pub mod Words
-pub mod Window
-pub mod Rows
-pub mod Core
-pub mod Painter
-pub mod Calls
-pub mod Host
-pub mod Terminal
-pub mod Sequences
-pub mod Painting
-pub mod Promise
-pub mod Machine
-pub mod Writing
-pub mod Table
-pub mod PaintSamples
+pub mod Rules
+pub mod Wording
+pub mod Tables

@@ -7,25 +7,28 @@ use crate::cursor::cursor;
 use crate::cursor::follow;
 use crate::cursor::is_visible;
 use crate::painter::refresh;
+use editor::EditorReply;
 use editor::Key;
-use editor::Lengths;
-use editor::Mode;
-use editor::Sizes;
 use editor::keys::press_session;
-use editor::sessions::editor_ok;
-use editor::sessions::sized_stores;
+use editor::records::QUIET;
+use editor::records::opening_lengths;
+use editor::refusals::LONG;
+use editor::refusals::SESSION;
+use editor::refusals::SIZE;
+use editor::refusals::TEXT;
+use editor::stores::editor_ok;
+use editor::stores::open_stores;
+use editor::stores::sized_stores;
 use gap::Search;
-use gap::runs::clear;
 use gap::sound::bad_byte;
-use gap::texts::open_text;
 ghost use mathlib.Core.Path.{_≡_};
-ghost use mathlib.Core.Bool.{true, false};
-ghost use Prim.Native.Nat.{_≤_};
+ghost use mathlib.Core.Bool.{true};
+ghost use Prim.Native.Nat.{_*_, _≤_};
 ghost use lib.ListN.{length};
-ghost use Rattle.editor.specs.Bytes.{quarter, sized};
-ghost use Rattle.editor.specs.Promise.{Sound, stores};
-ghost use Rattle.window.specs.Core.{zeroSizes, zeroRecord, rowsAndColumns, tabled, isSession, openedText, opened, shown, keyed};
-ghost use Rattle.window.specs.Calls.{lent, called, openingLengths, reported};
+ghost use Rattle.editor.specs.Rules.Bytes.{quarter, sized};
+ghost use Rattle.editor.specs.Wording.Promise.{stores};
+ghost use Rattle.window.specs.Rules.Core.{rowsAndColumns, tabled, isSession, refusal, openedText, opened, keyed};
+ghost use Rattle.window.specs.Wording.Calls.{Texts, lent, called, unopenedReply, turnedDownReply, Shows};
 
 // ---- Sizes and sessions
 
@@ -69,14 +72,13 @@ pub fn is_session(s: Session, text: &[u8], recall: &[u8], side: &[u8]) -> bool
 // ---- Answers
 
 // A refusal.
-fn refuse(code: usize, place: usize) -> Answer
-    ensures { λ a. ⌜ a ≡ record { code = code; place = place; steps = 0; bell = false; first = 0; last = 0; row = 0; column = 0 } ⌝ }
+fn refusal(code: usize, place: usize) -> Answer
+    ensures { λ a. ⌜ a ≡ refusal code place ⌝ }
 {
     Answer {
         code: code,
         place: place,
-        steps: 0,
-        bell: false,
+        report: QUIET,
         first: 0,
         last: 0,
         row: 0,
@@ -84,23 +86,12 @@ fn refuse(code: usize, place: usize) -> Answer
     }
 }
 
-fn zero_sizes() -> Sizes
-    ensures { λ n. ⌜ n ≡ zeroSizes ⌝ }
-{
-    Sizes {
-        l: 0,
-        r: 0,
-        rl: 0,
-        rr: 0,
-    }
-}
-
 // A refused opening: a record of zeros.
-fn unopened_reply(code: usize, place: usize) -> Reply
-    ensures { λ r. ⌜ r ≡ record { answer = record { code = code; place = place; steps = 0; bell = false; first = 0; last = 0; row = 0; column = 0 }; session = zeroRecord } ⌝ }
+fn unopened(code: usize, place: usize) -> Reply
+    ensures { λ r. ⌜ r ≡ unopenedReply code place ⌝ }
 {
     Reply {
-        answer: refuse(code, place),
+        answer: refusal(code, place),
         session: Session {
             lengths: opening_lengths(0),
             frame: Frame {
@@ -113,22 +104,13 @@ fn unopened_reply(code: usize, place: usize) -> Reply
     }
 }
 
-// The lengths of a newly opened text of n bytes.
-fn opening_lengths(n: usize) -> Lengths
-    ensures { λ m. ⌜ m ≡ openingLengths n ⌝ }
+// A refused key: the record as it was.
+fn turned_down(code: usize, s: Session) -> Reply
+    ensures { λ r. ⌜ r ≡ turnedDownReply code s ⌝ }
 {
-    Lengths {
-        main: Sizes {
-            l: 0,
-            r: n,
-            rl: 0,
-            rr: 0,
-        },
-        quoted: zero_sizes(),
-        xl: 0,
-        xr: 0,
-        pl: 0,
-        mode: Mode::Main,
+    Reply {
+        answer: refusal(code, 0),
+        session: s,
     }
 }
 
@@ -149,23 +131,19 @@ fn open_sound(
     ensures { λ r. ⌜ called r (lent (now (text .exit)) (now (recall .exit)) (now (side .exit)) (now (screen .exit)))
         ≡ openedText n h w (lent (now (text .entry)) (now (recall .entry)) (now (side .entry)) (now (screen .entry))) ⌝ }
 {
-    let lengths = opening_lengths(n);
     let frame = Frame {
         r: 0,
         c: 0,
         h: h,
         w: w,
     };
-    open_text(text, n);
-    clear(recall);
-    clear(side);
+    let lengths = open_stores(n, text, recall, side);
     refresh(lengths, frame, text, side, screen);
     Reply {
         answer: Answer {
             code: 0,
             place: 0,
-            steps: 0,
-            bell: false,
+            report: QUIET,
             first: 1,
             last: h,
             row: 1,
@@ -192,45 +170,27 @@ pub fn open(
         ≡ opened n h w (lent (now (text .entry)) (now (recall .entry)) (now (side .entry)) (now (screen .entry))) ⌝ }
 {
     if !tabled_stores(h, w, text, recall, side, screen) {
-        return unopened_reply(1, 0);
+        return unopened(SIZE, 0);
     }
     if text.len() < n {
-        return unopened_reply(2, 0);
+        return unopened(LONG, 0);
     }
     let Search::Reached(i) = bad_byte(&text[..n]) else {
         return open_sound(n, h, w, text, recall, side, screen);
     };
-    unopened_reply(3, i)
+    unopened(TEXT, i)
 }
 
 // ---- A key
 
-// A refused key: the record as it was.
-fn turned_down(code: usize, s: Session) -> Reply
-    ensures { λ r. ⌜ r ≡ record { answer = record { code = code; place = 0; steps = 0; bell = false; first = 0; last = 0; row = 0; column = 0 }; session = s } ⌝ }
-{
-    Reply {
-        answer: refuse(code, 0),
-        session: s,
-    }
-}
-
 // An accepted key: the offsets follow the cursor, the screen becomes the window, and the changed rows are named.
-fn show(
-    f: Frame,
-    done: editor::Reply,
-    text: &[u8],
-    recall: &[u8],
-    side: &[u8],
-    screen: &mut [u8],
-) -> Reply
-    requires { ⌜ Sound quarter (done .lengths) (stores (now text) (now recall) (now side)) ⌝ }
-    requires { ⌜ tabled (f .h) (f .w) (lent (now text) (now recall) (now side) (now screen)) ≡ true ⌝ }
-    ensures { λ r. ⌜ called r (lent (now (text .entry)) (now (recall .entry)) (now (side .entry)) (now (screen .exit)))
-        ≡ shown f (lent (now (text .entry)) (now (recall .entry)) (now (side .entry)) (now (screen .entry)))
-        (reported done (stores (now (text .entry)) (now (recall .entry)) (now (side .entry)))) ⌝ }
+fn show(f: Frame, done: EditorReply, text: &[u8], side: &[u8], screen: &mut [u8]) -> Reply
+    requires { ⌜ Texts (done .lengths) (now text) (now side) ⌝ }
+    requires { ⌜ (rowsAndColumns (f .h) (f .w) ≡ true) × (length (now screen) ≡ f .h * f .w) ⌝ }
+    ensures { λ r. ⌜ Shows r f done (now (text .entry)) (now (side .entry)) (now (screen .entry)) (now (screen .exit)) ⌝ }
 {
     let lengths = done.lengths;
+    let report = done.report;
     let spot = cursor(lengths, text, side);
     let g = follow(f, spot);
     let rows = refresh(lengths, g, text, side, screen);
@@ -238,8 +198,7 @@ fn show(
         answer: Answer {
             code: 0,
             place: 0,
-            steps: done.steps,
-            bell: done.bell,
+            report: report,
             first: rows.first,
             last: rows.last,
             row: spot.row - g.r,
@@ -269,15 +228,15 @@ pub fn press(
     let h = frame.h;
     let w = frame.w;
     if !tabled_stores(h, w, text, recall, side, screen) {
-        return turned_down(1, s);
+        return turned_down(SIZE, s);
     }
     if !is_session(s, text, recall, side) {
-        return turned_down(4, s);
+        return turned_down(SESSION, s);
     }
     let done = press_session(lengths, k, text, recall, side);
     let code = done.code;
     if 0 < code {
         return turned_down(code, s);
     }
-    show(frame, done, text, recall, side, screen)
+    show(frame, done, text, side, screen)
 }

@@ -8,8 +8,8 @@ use gap::lines::count_newlines;
 use gap::lines::since_newline;
 ghost use mathlib.Core.Path.{_≡_};
 ghost use Prim.Native.Nat.{_≤_};
-ghost use Rattle.window.specs.Window.{policyRow, policyColumn};
-ghost use Rattle.window.specs.Calls.{spotIn, visibleAt, policyAt, Texts, virtualHeld};
+ghost use Rattle.window.specs.Rules.Window.{policyRow, policyColumn};
+ghost use Rattle.window.specs.Wording.Calls.{spotIn, visibleAt, policyAt, Texts, virtualHeld};
 
 // Row from 1 and column from 0, over the texts left of the cursor only.
 pub fn cursor(n: Lengths, text: &[u8], side: &[u8]) -> Spot

@@ -1,28 +1,27 @@
-// The host's boundary: the calls for programs in C or Rust, with record, key and answer as numbers. Nothing is asked of the host
-// beforehand.
+// The host's boundary: the calls for programs in C or Rust, with record, key and answer as numbers. Nothing is asked beforehand; what is
+// trusted is that each pointer is that of as many bytes as its length says, and that no two overlap.
 use crate::Frame;
-use crate::Painting;
 use crate::Reply;
+use crate::Sending;
 use crate::Session;
 use crate::calls::open;
 use crate::calls::press;
 use crate::calls::tabled_stores;
-use crate::terminal::paint;
-use editor::Action;
-use editor::Key;
+use crate::host_keys::key_from;
+use crate::sender::Update;
+use crate::sender::send;
 use editor::Lengths;
 use editor::Mode;
-use editor::Place;
 use editor::Sizes;
-use gap::Direction;
+use editor::refusals::SESSION;
+use editor::refusals::SIZE;
 use gap::numbers::bit_of;
 ghost use mathlib.Core.Path.{_≡_};
-ghost use Rattle.window.specs.Calls.{lent};
-ghost use Rattle.window.specs.Core.{refusal};
-ghost use Rattle.window.specs.Painting.{painting};
-ghost use Rattle.window.specs.Writing.{outcomeOf};
-ghost use Rattle.window.specs.Host.{modeOf, sessionFrom, insertFrom, directionFrom, actionFrom, placeFrom, functionFrom};
-ghost use Rattle.window.specs.Host.{findFrom, keyFrom, modeNumber, recordFrom, numbersOf, saidOf, given, hostOpened, hostKeyed};
+ghost use Rattle.window.specs.Wording.Calls.{lent};
+ghost use Rattle.window.specs.Rules.Core.{refusal};
+ghost use Rattle.window.specs.Rules.Sending.{sending};
+ghost use Rattle.window.specs.Wording.Writing.{outcomeOf};
+ghost use Rattle.window.specs.Rules.Host.{modeOf, sessionFrom, modeNumber, recordFrom, numbersOf, saidOf, given, hostOpened, hostKeyed};
 
 // The session record in document order: lengths of the document left and right of its cursor, of the quotation, of both halves of the
 // document's recall text and of the quotation's, of both halves of the replacement, of the pattern; mode; offsets; rows and columns.
@@ -108,100 +107,6 @@ fn session_from(n: Record) -> Session
     }
 }
 
-fn insert_key(b: usize) -> Key
-    ensures { λ k. ⌜ k ≡ insertFrom b ⌝ }
-{
-    if 255 < b {
-        return Key::Insert(0);
-    }
-    Key::Insert(b as u8)
-}
-
-fn direction_of(d: usize) -> Direction
-    ensures { λ way. ⌜ way ≡ directionFrom d ⌝ }
-{
-    if d == 1 {
-        return Direction::Right;
-    }
-    Direction::Left
-}
-
-fn action_of(a: usize) -> Action
-    ensures { λ action. ⌜ action ≡ actionFrom a ⌝ }
-{
-    if a == 1 {
-        return Action::Delete;
-    }
-    Action::Move
-}
-
-fn place_of(p: usize) -> Place
-    ensures { λ place. ⌜ place ≡ placeFrom p ⌝ }
-{
-    if p == 1 {
-        return Place::Word;
-    }
-    if p == 2 {
-        return Place::LineBeginning;
-    }
-    if p == 3 {
-        return Place::LineEnding;
-    }
-    if p == 4 {
-        return Place::Document;
-    }
-    Place::Character
-}
-
-fn function_key(a: usize, d: usize, p: usize) -> Key
-    ensures { λ k. ⌜ k ≡ functionFrom a d p ⌝ }
-{
-    if 1 < a {
-        return Key::Insert(0);
-    }
-    if 1 < d {
-        return Key::Insert(0);
-    }
-    if 4 < p {
-        return Key::Insert(0);
-    }
-    Key::Function(action_of(a), direction_of(d), place_of(p))
-}
-
-fn find_key(d: usize) -> Key
-    ensures { λ k. ⌜ k ≡ findFrom d ⌝ }
-{
-    if 1 < d {
-        return Key::Insert(0);
-    }
-    Key::Find(direction_of(d))
-}
-
-// The key that a kind and three numbers name; what is none becomes an insert that is refused.
-fn key_from(kind: usize, a: usize, b: usize, c: usize) -> Key
-    ensures { λ k. ⌜ k ≡ keyFrom kind a b c ⌝ }
-{
-    if kind == 0 {
-        return insert_key(a);
-    }
-    if kind == 1 {
-        return function_key(a, b, c);
-    }
-    if kind == 2 {
-        return Key::Recall;
-    }
-    if kind == 3 {
-        return Key::Quote;
-    }
-    if kind == 4 {
-        return find_key(a);
-    }
-    if kind == 5 {
-        return Key::Replace;
-    }
-    Key::Insert(0)
-}
-
 // ---- And back
 
 fn mode_number(mode: Mode) -> usize
@@ -247,12 +152,13 @@ fn in_numbers(r: Reply) -> HostReply
 {
     let answer = r.answer;
     let session = r.session;
+    let report = answer.report;
     HostReply {
         said: Said {
             code: answer.code,
             place: answer.place,
-            steps: answer.steps,
-            bell: bit_of(answer.bell),
+            steps: report.steps,
+            bell: bit_of(report.bell),
             first: answer.first,
             last: answer.last,
             row: answer.row,
@@ -321,9 +227,9 @@ pub extern "C" fn chidukwore_key(
     let columns = n.columns;
     if 1 < mode {
         if tabled_stores(rows, columns, text, recall, side, screen) {
-            return refusal_of(4, n);
+            return refusal_of(SESSION, n);
         }
-        return refusal_of(1, n);
+        return refusal_of(SIZE, n);
     }
     in_numbers(press(
         session_from(n),
@@ -346,9 +252,15 @@ pub extern "C" fn chidukwore_paint(
     column: usize,
     screen: &[u8],
     buffer: &mut [u8],
-) -> Painting
+) -> Sending
     ensures { λ a. ⌜ outcomeOf a (now (buffer .exit))
-        ≡ painting rows columns first last row column (now (screen .entry)) (now (buffer .entry)) ⌝ }
+        ≡ sending rows columns first last row column (now (screen .entry)) (now (buffer .entry)) ⌝ }
 {
-    paint(rows, columns, first, last, row, column, screen, buffer)
+    let update = Update {
+        first: first,
+        last: last,
+        row: row,
+        column: column,
+    };
+    send(rows, columns, update, screen, buffer)
 }

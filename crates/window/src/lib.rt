@@ -1,13 +1,16 @@
 // The window layer: the screen, the core's two calls, and the bytes for a terminal.
 pub mod calls;
+pub mod cells;
 pub mod cursor;
 pub mod host;
+pub mod host_keys;
 pub mod painter;
+pub mod sender;
 pub mod sequences;
-pub mod terminal;
 pub mod writer;
 
 use editor::Lengths;
+use editor::Report;
 
 // The window's offsets r and c, and the screen's H rows and W columns.
 pub struct Frame {
@@ -48,8 +51,7 @@ pub struct Rows {
 pub struct Answer {
     pub code: usize,
     pub place: usize,
-    pub steps: usize,
-    pub bell: bool,
+    pub report: Report,
     pub first: usize,
     pub last: usize,
     pub row: usize,
@@ -64,7 +66,7 @@ pub struct Reply {
 
 // What the routine for terminals answers: 0 or a refusal, the place of TEXT, and how many bytes it wrote.
 #[repr(C)]
-pub struct Painting {
+pub struct Sending {
     pub code: usize,
     pub place: usize,
     pub count: usize,

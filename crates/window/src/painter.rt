@@ -3,155 +3,29 @@
 use crate::Frame;
 use crate::Pen;
 use crate::Rows;
+use crate::cells::draw_run;
+use crate::cells::end_row;
+use crate::cells::fresh;
 use editor::Lengths;
 use editor::Mode;
+use editor::QUARTER;
 use gap::lines::count_newlines;
 use gap::lines::front_without;
 use gap::lines::since_newline;
-use gap::numbers::excess;
-use gap::numbers::larger;
-use gap::numbers::smaller;
 ghost use mathlib.Core.Path.{_≡_};
-ghost use mathlib.Core.Bool.{not, true, false};
-ghost use Prim.Native.Nat.{_+_, _-_, _^_, _≤_, _<_};
-ghost use lib.ListN.{length, replicate};
-ghost use lib.Dec.{eqb};
-ghost use Rattle.gap.specs.Sequence.{every, sameBytes};
-ghost use Rattle.gap.specs.Lines.{newline, newlines};
-ghost use Rattle.window.specs.Painter.{above, over, penBelow, lineEnd, paint, finishPaint, begun, Easel, Canvas, sheet, RunEnd, LineStart};
+ghost use mathlib.Core.Bool.{true, false};
+ghost use Prim.Native.Nat.{_+_, _-_, _≤_, _<_};
+ghost use lib.ListN.{length};
+ghost use Rattle.gap.specs.Rules.Lines.{newline, newlines};
+ghost use Rattle.window.specs.Wording.Painter.{above, paint, finishPaint, begun, Easel, Canvas, sheet, RunEnd, LineStart};
 ghost use mathlib.Core.List.{[], _∷_};
-ghost use Rattle.gap.specs.Doc.{content};
-ghost use Rattle.gap.specs.Layout.{ungap};
+ghost use Rattle.gap.specs.Rules.Doc.{content};
+ghost use Rattle.gap.specs.Rules.Layout.{ungap};
 ghost use Rattle.editor.specs.declared.Mode.the-variants.{Quoted};
-ghost use Rattle.window.specs.Window.{virtualIn, visible};
-ghost use Rattle.window.specs.Calls.{Texts, virtualHeld, Refreshed};
+ghost use Rattle.window.specs.Rules.Window.{virtualIn, visible};
+ghost use Rattle.window.specs.Wording.Calls.{Texts, virtualHeld, Refreshed};
 
-// A run of cells is written; answers whether one was another before.
-fn put_run(cells: &mut [u8], run: &[u8]) -> bool
-    requires { ⌜ length (now run) ≡ length (now cells) ⌝ }
-    ensures { λ r. ⌜ (now (cells .exit) ≡ now (run .entry)) × (r ≡ not (sameBytes (now (cells .entry)) (now (run .entry)))) ⌝ }
-{
-    let mut same = true;
-    let mut i = 0;
-    while i < run.len() {
-        let b = run[i];
-        same = same & (cells[i] == b);
-        cells[i] = b;
-        i += 1;
-    }
-    !same
-}
-
-// The same with blanks.
-fn put_blanks(cells: &mut [u8]) -> bool
-    ensures { λ r. ⌜ (now (cells .exit) ≡ replicate (length (now (cells .entry))) 32)
-        × (r ≡ not (sameBytes (now (cells .entry)) (replicate (length (now (cells .entry))) 32))) ⌝ }
-{
-    let mut same = true;
-    let mut i = 0;
-    while i < cells.len() {
-        same = same & (cells[i] == 32);
-        cells[i] = 32;
-        i += 1;
-    }
-    !same
-}
-
-// The pen on another column, its row marked or not.
-fn pen_at(pen: Pen, x: usize, changed: bool) -> Pen
-    ensures { λ q. ⌜ q ≡ record { y = pen .y; x = x; changed = changed; first = pen .first; last = pen .last } ⌝ }
-{
-    Pen {
-        y: pen.y,
-        x: x,
-        changed: changed,
-        first: pen.first,
-        last: pen.last,
-    }
-}
-
-// A run without newline, in a row of the window: what lies between column c and c + W is written in one go.
-fn draw_run(f: Frame, pen: Pen, run: &[u8], screen: &mut [u8]) -> Pen
-    requires { ⌜ every (λ b. not (eqb b newline)) (now run) ≡ true ⌝ }
-    requires { ⌜ Easel f (length (now run)) (sheet pen (now screen)) ⌝ }
-    requires { ⌜ (above f pen ≡ false) × (over f pen ≡ false) ⌝ }
-    ensures { λ q. ⌜ sheet q (now (screen .exit)) ≡ paint f (now (run .entry)) (sheet pen (now (screen .entry))) ⌝ }
-{
-    let r = f.r;
-    let c = f.c;
-    let w = f.w;
-    let y = pen.y;
-    let x = pen.x;
-    let was = pen.changed;
-    let end = x + run.len();
-    let low = larger(c, x);
-    let high = smaller(c + w, end);
-    if high <= low {
-        return pen_at(pen, end, was);
-    }
-    let seen = high - low;
-    let at = (y - r) * w + (low - c);
-    let stop = at + seen;
-    let from = low - x;
-    let to = from + seen;
-    let changed = put_run(&mut screen[at..stop], &run[from..to]);
-    pen_at(pen, end, was | changed)
-}
-
-// The pen at the start of the next line; a marked row is named.
-fn next_line(f: Frame, pen: Pen, changed: bool) -> Pen
-    requires { ⌜ (f .r ≤ pen .y) × (pen .y + 1 < 2 ^ 64) ⌝ }
-    ensures { λ q. ⌜ q ≡ penBelow f pen changed ⌝ }
-{
-    let y = pen.y;
-    if !changed {
-        return Pen {
-            y: y + 1,
-            x: 0,
-            changed: false,
-            first: pen.first,
-            last: pen.last,
-        };
-    }
-    let row = y - f.r + 1;
-    let first = pen.first;
-    if first < 1 {
-        return Pen {
-            y: y + 1,
-            x: 0,
-            changed: false,
-            first: row,
-            last: row,
-        };
-    }
-    Pen {
-        y: y + 1,
-        x: 0,
-        changed: false,
-        first: first,
-        last: row,
-    }
-}
-
-// The end of a line in a row of the window: blanks to the right edge.
-fn end_row(f: Frame, pen: Pen, screen: &mut [u8]) -> Pen
-    requires { ⌜ Easel f 1 (sheet pen (now screen)) ⌝ }
-    requires { ⌜ (above f pen ≡ false) × (over f pen ≡ false) ⌝ }
-    ensures { λ q. ⌜ sheet q (now (screen .exit)) ≡ lineEnd f (sheet pen (now (screen .entry))) ⌝ }
-{
-    let r = f.r;
-    let w = f.w;
-    let y = pen.y;
-    let was = pen.changed;
-    let across = smaller(excess(pen.x, f.c), w);
-    let left = w - across;
-    let at = (y - r) * w + across;
-    let stop = at + left;
-    let changed = put_blanks(&mut screen[at..stop]);
-    next_line(f, pen, was | changed)
-}
-
-// Where the run from place i on ends: at a newline, or at the end.
+// Where the run from index i on ends: at a newline, or at the end.
 fn run_end(t: &[u8], i: usize) -> usize
     requires { ⌜ i ≤ length (now t) ⌝ }
     ensures { λ e. ⌜ RunEnd (now (t .entry)) i e ⌝ }
@@ -207,7 +81,7 @@ fn line_start(t: &[u8], k: usize) -> usize
 }
 
 // A piece of the text, wherever the pen is: what lies above the window is only counted.
-fn feed(f: Frame, pen: Pen, t: &[u8], screen: &mut [u8]) -> Pen
+fn paint_piece(f: Frame, pen: Pen, t: &[u8], screen: &mut [u8]) -> Pen
     requires { ⌜ Easel f (length (now t)) (sheet pen (now screen)) ⌝ }
     ensures { λ q. ⌜ sheet q (now (screen .exit)) ≡ paint f (now (t .entry)) (sheet pen (now (screen .entry))) ⌝ }
 {
@@ -259,7 +133,7 @@ fn open_quotation(f: Frame, pen: Pen, screen: &mut [u8]) -> Pen
     ensures { λ q. ⌜ sheet q (now (screen .exit)) ≡ paint f (newline ∷ 62 ∷ []) (sheet pen (now (screen .entry))) ⌝ }
 {
     let mark = [10u8, 62u8];
-    feed(f, pen, &mark, screen)
+    paint_piece(f, pen, &mark, screen)
 }
 
 fn close_quotation(f: Frame, pen: Pen, screen: &mut [u8]) -> Pen
@@ -267,7 +141,7 @@ fn close_quotation(f: Frame, pen: Pen, screen: &mut [u8]) -> Pen
     ensures { λ q. ⌜ sheet q (now (screen .exit)) ≡ paint f (newline ∷ []) (sheet pen (now (screen .entry))) ⌝ }
 {
     let mark = [10u8];
-    feed(f, pen, &mark, screen)
+    paint_piece(f, pen, &mark, screen)
 }
 
 // The virtual text in MAIN, from the first byte on.
@@ -277,20 +151,8 @@ fn paint_main(f: Frame, text: &[u8], l: usize, r: usize, screen: &mut [u8]) -> P
     ensures { λ q. ⌜ sheet q (now (screen .exit)) ≡ paint f (content (ungap l r (now (text .entry)))) (begun (now (screen .entry))) ⌝ }
 {
     let back = text.len() - r;
-    let left = feed(f, fresh(), &text[..l], screen);
-    feed(f, left, &text[back..], screen)
-}
-
-fn fresh() -> Pen
-    ensures { λ q. ⌜ q ≡ record { y = 0; x = 0; changed = false; first = 0; last = 0 } ⌝ }
-{
-    Pen {
-        y: 0,
-        x: 0,
-        changed: false,
-        first: 0,
-        last: 0,
-    }
+    let left = paint_piece(f, fresh(), &text[..l], screen);
+    paint_piece(f, left, &text[back..], screen)
 }
 
 // The virtual text in QUOTED: the quotation's two texts, q and s bytes long, stand between the document's.
@@ -311,12 +173,12 @@ fn paint_quoted(
 {
     let back = text.len() - r;
     let behind = quarter.len() - s;
-    let left = feed(f, fresh(), &text[..l], screen);
+    let left = paint_piece(f, fresh(), &text[..l], screen);
     let opened = open_quotation(f, left, screen);
-    let before = feed(f, opened, &quarter[..q], screen);
-    let after = feed(f, before, &quarter[behind..], screen);
+    let before = paint_piece(f, opened, &quarter[..q], screen);
+    let after = paint_piece(f, before, &quarter[behind..], screen);
     let closed = close_quotation(f, after, screen);
-    feed(f, closed, &text[back..], screen)
+    paint_piece(f, closed, &text[back..], screen)
 }
 
 // The rows that a pen has named.
@@ -349,7 +211,7 @@ pub fn refresh(n: Lengths, f: Frame, text: &[u8], side: &[u8], screen: &mut [u8]
                 text,
                 main.l,
                 main.r,
-                &side[..256],
+                &side[..QUARTER],
                 quoted.l,
                 quoted.r,
                 screen,

@@ -1,14 +1,14 @@
-// A writer holds the lent buffer and its fill mark. It is taken apart and handed to the plain functions on the slice and the place;
+// A writer holds the lent buffer and its fill mark. It is taken apart and handed to the plain functions on the slice and the index;
 // `write_screen`, with plain parameters, serves every caller.
-use crate::sequences::put_place;
 use crate::sequences::put_rows;
+use crate::sequences::put_spot;
 ghost use mathlib.Core.Path.{_≡_};
 ghost use mathlib.Core.List.{_++_};
 ghost use Prim.Native.Nat.{_+_, _≤_};
 ghost use lib.ListN.{length};
-ghost use Rattle.gap.specs.Written.{Wrote};
-ghost use Rattle.window.specs.Sequences.{placed, sentRows};
-ghost use Rattle.window.specs.Writing.{RowsIn, filled};
+ghost use Rattle.gap.specs.Wording.Written.{Wrote};
+ghost use Rattle.window.specs.Rules.Sequences.{sentSpot, sentRows};
+ghost use Rattle.window.specs.Wording.Writing.{RowsIn, filled};
 
 // The lent buffer, and how far it is filled.
 pub struct Writer<'a> {
@@ -43,17 +43,17 @@ fn with_rows<'a, 'b>(
     }
 }
 
-// A place goes behind what the writer holds. It is the last that is written, so the mark is handed back alone: it is the count.
+// A spot goes behind what the writer holds. It is the last that is written, so the mark is handed back alone: it is the count.
 // (`t .exit .0` is the buffer as it is left.)
-fn with_place<'a>(t: Writer<'a>, row: usize, column: usize) -> usize
-    requires { ⌜ t .at + length (placed row column) ≤ length (now (t .out)) ⌝ }
-    ensures { λ n. ⌜ Wrote (t .entry .at) (placed row column) (now (t .entry .out)) n (now (t .exit .0)) ⌝ }
+fn with_spot<'a>(t: Writer<'a>, row: usize, column: usize) -> usize
+    requires { ⌜ t .at + length (sentSpot row column) ≤ length (now (t .out)) ⌝ }
+    ensures { λ n. ⌜ Wrote (t .entry .at) (sentSpot row column) (now (t .entry .out)) n (now (t .exit .0)) ⌝ }
 {
     let at = t.at;
-    put_place(row, column, &mut *t.out, at)
+    put_spot(row, column, &mut *t.out, at)
 }
 
-// The named rows and then a place, from the front of the buffer on.
+// The named rows and then a spot, from the front of the buffer on.
 pub fn write_screen(
     w: usize,
     first: usize,
@@ -64,10 +64,10 @@ pub fn write_screen(
     out: &mut [u8],
 ) -> usize
     requires { ⌜ RowsIn w first last (now screen) ⌝ }
-    requires { ⌜ length (sentRows w first last (now screen) ++ placed row column) ≤ length (now out) ⌝ }
-    ensures { λ n. ⌜ Wrote 0 (sentRows w first last (now (screen .entry)) ++ placed row column) (now (out .entry)) n (now (out .exit)) ⌝ }
+    requires { ⌜ length (sentRows w first last (now screen) ++ sentSpot row column) ≤ length (now out) ⌝ }
+    ensures { λ n. ⌜ Wrote 0 (sentRows w first last (now (screen .entry)) ++ sentSpot row column) (now (out .entry)) n (now (out .exit)) ⌝ }
 {
-    with_place(
+    with_spot(
         with_rows(at_front(out), w, first, last, screen),
         row,
         column,

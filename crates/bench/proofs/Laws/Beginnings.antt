@@ -8,14 +8,14 @@ use lib.Dec.{leb}
 use lib.ListN.{length, take, drop}
 use borrow.Author.Tests.{leb-true, le-leb, lt-leb}
 use borrow.Rule.Slice.PartMut.{midOf}
-use Rattle.gap.specs.Sequence.{part, patch}
+use Rattle.gap.specs.Rules.Sequence.{part, patch}
 use Rattle.gap.proofs.Laws.Tests.{cond-true, cond-false}
 use Rattle.gap.proofs.Laws.Sequence.{take-least}
-use Rattle.window.specs.Core.{rowsAndColumns}
+use Rattle.window.specs.Rules.Core.{rowsAndColumns}
 use Rattle.window.proofs.Laws.KeyCall.{product-small}
 use Rattle.bench.specs.Words.{Header, Heading, Headed, Broken}
-use Rattle.bench.specs.Script.{headingOf}
-use Rattle.bench.specs.Run.{unlessLarge, beginning, screenSize}
+use Rattle.bench.specs.Rules.Script.{headingOf}
+use Rattle.bench.specs.Rules.Run.{unlessLarge, beginning, screenSize}
 use Rattle.bench.proofs.Laws.Scripts.{headed-inside}
 
 pub store-large : (h : Header) → 4096 < h .store → Broken 0 ≡ unlessLarge (Headed h)

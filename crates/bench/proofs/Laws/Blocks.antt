@@ -7,26 +7,26 @@ use native.Mathlib.Omega.{arith}
 use lib.Dec.{leb}
 use lib.ListN.{length}
 use borrow.Author.Tests.{leb-true, eq-eqb, ne-eqb}
-use Rattle.gap.specs.Written.{Wrote}
+use Rattle.gap.specs.Wording.Written.{Wrote}
 use Rattle.gap.proofs.Laws.Tests.{cond-true, cond-false, and-left, and-right}
 use Rattle.editor.specs.declared.Key.{Key}
 use Rattle.window.specs.declared.Session.{Session}
 use Rattle.window.specs.declared.Answer.{Answer as Said}
-use Rattle.window.specs.Core.{Lent, Called, tabled, opened, keyed}
+use Rattle.window.specs.Rules.Core.{Lent, Called, tabled, opened, keyed}
 use Rattle.window.proofs.Laws.Views.{tabled-facts}
 use Rattle.window.proofs.Theorems.Refusals.{opening-accepted, key-accepted}
-use Rattle.bench.specs.Print.{answerOf, acceptedBlock, refusedBlock, block, Printable}
+use Rattle.bench.specs.Rules.Print.{acceptedBlock, refusedBlock, block, Printable}
 
 module _ (h w : ℕ) (a : Said) (screen : List ℕ) {n : ℕ} {old new : List ℕ} where
-  pub block-accepted : a .code ≤ 0 → Wrote 0 (acceptedBlock h w (answerOf a) screen) old n new
-      → Wrote 0 (block h w (answerOf a) screen) old n new
+  pub block-accepted : a .code ≤ 0 → Wrote 0 (acceptedBlock h w a screen) old n new
+      → Wrote 0 (block h w a screen) old n new
   unfolding block
   block-accepted none wrote =
       let e : a .code ≡ 0 = omega arith in
       subst (λ run. Wrote 0 run old n new) (sym (cond-true _ _ (eq-eqb (a .code) 0 e))) wrote
 
   pub block-refused : 0 < a .code → Wrote 0 (refusedBlock (a .code) (a .place)) old n new
-      → Wrote 0 (block h w (answerOf a) screen) old n new
+      → Wrote 0 (block h w a screen) old n new
   unfolding block
   block-refused some wrote =
       subst (λ run. Wrote 0 run old n new) (sym (cond-false _ _ (ne-eqb (a .code) 0 (λ e. omega arith)))) wrote

@@ -4,13 +4,13 @@ use mathlib.Core.Bool.{Bool, true}
 use mathlib.Core.List.{List}
 use Prim.Native.Nat.{ℕ}
 use Prim.Native.String.{String}
-use Rattle.gap.specs.Sequence.{sameBytes, begins}
-use Rattle.gap.specs.Strings.{bytes}
-use Rattle.gap.specs.Decimal.{numberOf}
+use Rattle.gap.specs.Rules.Sequence.{sameBytes, begins}
+use Rattle.gap.specs.Rules.Strings.{bytes}
+use Rattle.gap.specs.Rules.Decimal.{numberOf}
 use Rattle.gap.proofs.Laws.Sequence.{same-equal}
 use Rattle.gap.proofs.Laws.Runs.{tailOf, tail-lent}
 use Rattle.bench.specs.Words.{Left, Right, Recall, Quote, Find, Replace, Number, Naming, Named}
-use Rattle.bench.specs.Names.{mostDigits, insertNumbered, keyNamed}
+use Rattle.bench.specs.Rules.Names.{mostDigits, insertNumbered, keyNamed}
 
 pub record FiveWords : Type 0 where
   pub recall : Named Recall ≡ keyNamed (bytes "recall")

@@ -7,7 +7,7 @@ use lib.ListN.{length, take, getD, length-append}
 use lib.Seq.{take-append-seam}
 use Rattle.gap.proofs.Laws.Sequence.{at-map}
 use Rattle.bench.specs.Words.{Entry}
-use Rattle.bench.specs.Names.{Combination, nameOf, combinations, combinationAt, entryOf}
+use Rattle.bench.specs.Rules.Names.{Combination, nameOf, combinations, combinationAt, entryOf}
 
 pub row-made : (i : ℕ) (none : Entry) → i < 20 → getD (map entryOf combinations) i none ≡ entryOf (combinationAt i)
 unfolding combinations

@@ -8,18 +8,18 @@ use native.Mathlib.Omega.{arith}
 use lib.ListN.{length, take, drop, length-append, length-drop}
 use lib.Seq.{length-take-le, take-length, take-take, drop-drop}
 use borrow.Rule.Slice.PartMut.{midOf}
-use Rattle.gap.specs.Sequence.{part}
-use Rattle.gap.specs.Strings.{bytes}
-use Rattle.gap.specs.Lines.{newline}
-use Rattle.gap.specs.Numbers.{bit}
-use Rattle.gap.specs.Fields.{entry}
-use Rattle.gap.specs.Written.{Wrote}
+use Rattle.gap.specs.Rules.Sequence.{part}
+use Rattle.gap.specs.Rules.Strings.{bytes}
+use Rattle.gap.specs.Rules.Lines.{newline}
+use Rattle.gap.specs.Rules.Numbers.{bit}
+use Rattle.gap.specs.Rules.Fields.{entry}
+use Rattle.gap.specs.Wording.Written.{Wrote}
 use Rattle.gap.proofs.Laws.Sequence.{length-part}
 use Rattle.gap.proofs.Laws.Runs.{part-lent}
 use Rattle.gap.proofs.Laws.Writers.{wrote-none, then, wrote-length}
 use Rattle.window.proofs.Laws.Paint.{row-fits}
-use Rattle.window.specs.Core.{Answer}
-use Rattle.bench.specs.Print.{rowsOf, acceptedBlock, Printable}
+use Rattle.window.specs.declared.Answer.{Answer}
+use Rattle.bench.specs.Rules.Print.{rowsOf, acceptedBlock, Printable}
 
 -- A word, cells and a newline, one behind the other, are a row.
 pub row-wrote : {at cells-at end next : ℕ} {cells old s t new : List ℕ} → Wrote at (bytes "line=") old cells-at s
@@ -105,9 +105,9 @@ shown-all {h} {w} {at} {i} {from} {next} {screen} {old} {new} shown done = let a
 
 -- The block of an accepted call: its first entry, the others two by two, and the rows behind them.
 pub accepted-wrote : (h w : ℕ) (a : Answer) (screen : List ℕ) {bell steps-at first-at row-at lines-at next : ℕ} {old s t u v new : List ℕ}
-    → bell ≡ bit (a .bell)
+    → bell ≡ bit (a .report .bell)
     → Wrote 0 (entry (bytes "code=") 0) old steps-at s
-    → Wrote steps-at (entry (bytes "steps=") (a .steps) ++ entry (bytes "bell=") bell) s first-at t
+    → Wrote steps-at (entry (bytes "steps=") (a .report .steps) ++ entry (bytes "bell=") bell) s first-at t
     → Wrote first-at (entry (bytes "first=") (a .first) ++ entry (bytes "last=") (a .last)) t row-at u
     → Wrote row-at (entry (bytes "row=") (a .row) ++ entry (bytes "col=") (a .column)) u lines-at v
     → Wrote lines-at (rowsOf h w screen) v next new

@@ -8,15 +8,15 @@ use lib.Dec.{eqb, ltb}
 use lib.ListN.{length, getD}
 use borrow.Author.Tests.{ltb-true, lt-ltb, le-ltb}
 use borrow.Rule.Slice.PartMut.{midOf}
-use Rattle.gap.specs.Strings.{bytes}
-use Rattle.gap.specs.Lines.{newline}
-use Rattle.gap.specs.Fields.{lineAt, endAt, nextAt, headerAt}
+use Rattle.gap.specs.Rules.Strings.{bytes}
+use Rattle.gap.specs.Rules.Lines.{newline}
+use Rattle.gap.specs.Rules.Fields.{lineAt, endAt, nextAt, headerAt}
 use Rattle.gap.proofs.Laws.Tests.{and-left, cond-true, cond-false}
 use Rattle.gap.proofs.Laws.LinePlaces.{line-lent, next-inside, next-after}
 use Rattle.bench.specs.Words.{Key, Number, Read, Unreadable, Header, Heading, Headed, Broken}
 use Rattle.bench.specs.Words.{Naming, Named, Unnamed, Pressed, Finished, Unknown}
-use Rattle.bench.specs.Names.{mostDigits}
-use Rattle.bench.specs.Script.{whenRead, textThere, headingOf, keyOf, readAs, readingAt}
+use Rattle.bench.specs.Rules.Names.{mostDigits}
+use Rattle.bench.specs.Rules.Script.{whenRead, textThere, headingOf, keyOf, readAs, readingAt}
 
 -- ---- What a line says
 

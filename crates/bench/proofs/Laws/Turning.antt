@@ -7,21 +7,21 @@ use native.Mathlib.Numerals.{add-one}
 use native.Mathlib.Omega.{arith}
 use lib.Dec.{eqb}
 use lib.ListN.{length}
-use Rattle.gap.specs.Fields.{lineNumber}
-use Rattle.gap.specs.Written.{Wrote}
+use Rattle.gap.specs.Rules.Fields.{lineNumber}
+use Rattle.gap.specs.Wording.Written.{Wrote}
 use Rattle.gap.proofs.Laws.Writers.{wrote-none, wrote-length}
 use Rattle.editor.specs.declared.Key.{Key}
 use Rattle.window.specs.declared.Session.{Session}
 use Rattle.window.specs.declared.Reply.{Reply}
-use Rattle.window.specs.Core.{Lent, opened, keyed}
-use Rattle.window.specs.Calls.{lent, called}
+use Rattle.window.specs.Rules.Core.{Lent, opened, keyed}
+use Rattle.window.specs.Wording.Calls.{lent, called}
 use Rattle.bench.specs.Words.{Header, Pressed, Finished, Unknown}
 use Rattle.bench.specs.declared.Turn.{Turn}
-use Rattle.bench.specs.Script.{readingAt}
-use Rattle.bench.specs.Print.{answerOf, block, scriptLine}
-use Rattle.bench.specs.Run.{laidOut, Turned, openingTurn, pressedTurn, read, nextTurn}
+use Rattle.bench.specs.Rules.Script.{readingAt}
+use Rattle.bench.specs.Rules.Print.{block, scriptLine}
+use Rattle.bench.specs.Rules.Run.{laidOut, Turned, openingTurn, pressedTurn, read, nextTurn}
 use Rattle.bench.proofs.Laws.Scripts.{pressed-goes-on}
-use Rattle.bench.specs.Turns.{stateOf, Does, Onward}
+use Rattle.bench.specs.Wording.Turns.{stateOf, Does, Onward}
 
 -- ---- Turns
 
@@ -29,7 +29,7 @@ use Rattle.bench.specs.Turns.{stateOf, Does, Onward}
 module _ (r : Reply) (after : Lent) (n : ℕ) (old new : List ℕ) where
   pub opening-does : (h : Header) (input : List ℕ) (b : Lent) (text : List ℕ) → text ≡ laidOut h input b .stores .text
       → called r after ≡ opened (h .length) (h .rows) (h .columns) (lent text (b .stores .recall) (b .stores .side) (b .screen))
-      → Wrote 0 (block (h .rows) (h .columns) (answerOf (r .answer)) (after .screen)) old n new
+      → Wrote 0 (block (h .rows) (h .columns) (r .answer) (after .screen)) old n new
       → Does (openingTurn h input b) (record { going = eqb (r .answer .code) 0; at = h .at + h .length + 1; session = r .session; printed = n }) after old new
   unfolding openingTurn
   opening-does h input b text laid e w =
@@ -41,7 +41,7 @@ module _ (r : Reply) (after : Lent) (n : ℕ) (old new : List ℕ) where
       }
 
   pub press-does : (s : Session) (k : Key) (next : ℕ) (b : Lent) → called r after ≡ keyed s k b
-      → Wrote 0 (block (s .frame .h) (s .frame .w) (answerOf (r .answer)) (after .screen)) old n new
+      → Wrote 0 (block (s .frame .h) (s .frame .w) (r .answer) (after .screen)) old n new
       → Does (pressedTurn s k next b) (record { going = true; at = next; session = r .session; printed = n }) after old new
   unfolding pressedTurn
   press-does s k next b e w =

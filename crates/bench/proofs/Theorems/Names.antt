@@ -3,12 +3,12 @@ use mathlib.Core.Path.{_≡_, refl, sym, ap, _∙_}
 use mathlib.Core.List.{List, [], _∷_, _++_, map}
 use Prim.Native.Nat.{ℕ}
 use lib.ListN.{getD, List·getD-map}
-use Rattle.gap.specs.Sequence.{every, sameBytes, begins, counted}
-use Rattle.gap.specs.Strings.{bytes}
-use Rattle.gap.specs.Nearest.{nearest}
-use Rattle.gap.specs.Decimal.{valueAfter, isNumber, numberOf, digitsIn, decimal}
+use Rattle.gap.specs.Rules.Sequence.{every, sameBytes, begins, counted}
+use Rattle.gap.specs.Rules.Strings.{bytes}
+use Rattle.gap.specs.Rules.Nearest.{nearest}
+use Rattle.gap.specs.Rules.Decimal.{valueAfter, isNumber, numberOf, digitsIn, decimal}
 use Rattle.bench.specs.Words.{Left, Right, Key, Insert, Function, Recall, Quote, Find, Replace, Named}
-use Rattle.bench.specs.Names.{nameOf, combinations, functionOf, functionNamed, keyNamed}
+use Rattle.bench.specs.Rules.Names.{nameOf, combinations, functionOf, functionNamed, keyNamed}
 use Rattle.bench.proofs.Laws.KeyNames.{five-words}
 
 abbrev pub keyName : Key → List ℕ

@@ -9,13 +9,13 @@ use native.Mathlib.Nat.{zero-add, suc-add}
 use native.Mathlib.Omega.{arith}
 use lib.ListN.{length}
 use Rattle.bench.specs.Words.{Header, Headed, Reading, Pressed, Finished, Unknown}
-use Rattle.bench.specs.Script.{headingOf, readingAt}
+use Rattle.bench.specs.Rules.Script.{headingOf, readingAt}
 use Rattle.gap.proofs.Laws.Tests.{decided}
 use Rattle.gap.proofs.Laws.Writers.{one-written}
-use Rattle.window.specs.Core.{Lent}
+use Rattle.window.specs.Rules.Core.{Lent}
 use Rattle.bench.specs.declared.Turn.{Turn}
-use Rattle.bench.specs.Turns.{stateOf, Does}
-use Rattle.bench.specs.Run.{State, Turned, openingTurn, pressedTurn, read, nextTurn, turns}
+use Rattle.bench.specs.Wording.Turns.{stateOf, Does}
+use Rattle.bench.specs.Rules.Run.{State, Turned, openingTurn, pressedTurn, read, nextTurn, turns}
 use Rattle.bench.proofs.Laws.Scripts.{pressed-goes-on, headed-inside}
 
 -- Where a turn goes on, its next line starts further on, and within the input or at its end.

@@ -1,5 +1,5 @@
 -- The search and the substitution on record and stores: what the code does on the document's side is what the plain editor says.
-use mathlib.Core.Path.{_≡_, sym, ap, _∙_}
+use mathlib.Core.Path.{_≡_, refl, sym, ap, _∙_}
 use mathlib.Core.Bool.{true, false}
 use mathlib.Core.List.{List, _++_}
 use Prim.Native.Nat.{ℕ, _+_, _-_, _*_, _≤_}
@@ -8,25 +8,25 @@ use native.Mathlib.Omega.{arith}
 use borrow.Author.Tests.{leb-true}
 use lib.ListN.{length, take, drop, length-append, length-take, length-drop}
 use lib.Seq.{take-take}
-use Rattle.gap.specs.Sequence.{part, zeros}
-use Rattle.gap.specs.Doc.{Doc, empty, splice}
-use Rattle.gap.specs.Nearest.{distance}
-use Rattle.gap.specs.Layout.{gapped, paired, ungap, unpair, IsGap}
+use Rattle.gap.specs.Rules.Sequence.{part, zeros}
+use Rattle.gap.specs.Rules.Doc.{Doc, empty, splice}
+use Rattle.gap.specs.Rules.Nearest.{distance}
+use Rattle.gap.specs.Rules.Layout.{gapped, paired, ungap, unpair, IsGap}
 use Rattle.gap.proofs.Laws.Tests.{and-left, cond-true, cond-false}
 use Rattle.gap.proofs.Laws.Compared.{begins-fits}
 use Rattle.gap.proofs.Laws.Doc.{splice-twice}
 use Rattle.gap.proofs.Laws.Layout.{length-gapped, ungap-gapped}
 use Rattle.gap.proofs.Laws.Moves.{gap-is}
-use Rattle.editor.specs.Words.{Direction, Left, Search, Move, Main, Sizes, Lengths}
-use Rattle.editor.specs.declared.Turn.{Turn}
-use Rattle.editor.specs.declared.Reply.{Reply}
-use Rattle.editor.specs.Plain.{Side, Plain, Did, quiet, rang, within, done}
-use Rattle.editor.specs.Keys.{carried, withSide, matches, searched, exchanged, substituted, fits, bounded}
-use Rattle.editor.specs.Bytes.{Stores, sizesOf, plainOf, editedTo}
-use Rattle.editor.specs.Promise.{Sound, stores, turned, written, Turns, replied, replyOf}
+use Rattle.editor.specs.Words.{Direction, Left, Search, Move, Main, Sizes, Lengths, Report}
+use Rattle.editor.specs.declared.SideReply.{SideReply}
+use Rattle.editor.specs.declared.EditorReply.{EditorReply}
+use Rattle.editor.specs.Rules.Plain.{Side, Plain, quiet, rang, Did, reporting, within, done}
+use Rattle.editor.specs.Rules.Keys.{carried, withSide, matches, searched, exchanged, substituted, fits, bounded}
+use Rattle.editor.specs.Rules.Bytes.{Stores, sizesOf, plainOf, editedTo}
+use Rattle.editor.specs.Wording.Promise.{Sound, stores, doneReply, written, EditsSide, replyOf}
 use Rattle.editor.proofs.Laws.Sound.{SoundPlain}
 use Rattle.editor.proofs.Laws.States.{sound-fits, searched-sound}
-use Rattle.editor.proofs.Laws.Turns.{doneTurn, landed, not-moved}
+use Rattle.editor.proofs.Laws.SideEdits.{landed, not-moved}
 use Rattle.editor.proofs.Laws.Replies.{on-side, landed as all-landed}
 use Rattle.editor.proofs.Laws.Fitting.{Sized, sizes, fitting}
 use Rattle.editor.proofs.Theorems.Layouts.{session-encoded}
@@ -94,12 +94,12 @@ module _ (Q : ℕ) (n : Lengths) (b : Stores) (sound : Sound Q n b) where
 
   -- A key on the document's side that has room is done.
   main-done : (did : Did Side) (whole : Did Plain) → within (λ s. withSide Main s p) did ≡ whole → fits T Q (whole .state) ≡ true
-      → (t : Turn) (reply : Reply) (text recall : List ℕ) → reply ≡ replyOf Main n t
-      → turned t text recall ≡ written (n .main) (b .text) (b .recall) did
-      → replied reply (stores text recall (b .side)) ≡ editedTo Q n b (done whole)
+      → (t : SideReply) (reply : EditorReply) (text recall : List ℕ) → reply ≡ replyOf Main n t
+      → record { reply = t; text = text; recall = recall } ≡ written (n .main) (b .text) (b .recall) did
+      → record { reply = reply; stores = stores text recall (b .side) } ≡ editedTo Q n b (done whole)
   unfolding bounded
   main-done did whole same room t reply text recall e turns =
-      ap (λ r. replied r (stores text recall (b .side))) e ∙ all-landed Q n b sound Main did t text recall turns
+      (λ i. record { reply = e i; stores = stores text recall (b .side) }) ∙ all-landed Q n b sound Main did t text recall turns
       ∙ ap (λ did. editedTo Q n b (bounded T Q did)) same ∙ ap (editedTo Q n b) (cond-true _ _ room)
 
   -- ---- The search
@@ -111,9 +111,9 @@ module _ (Q : ℕ) (n : Lengths) (b : Stores) (sound : Sound Q n b) where
     unfolding searched plainOf
     found-as = rw (← told, is, pattern-lent)
 
-    pub search-done : (t : Turn) (reply : Reply) (text recall : List ℕ) → reply ≡ replyOf Main n t
-        → Turns t (n .main) (carried Move way found) (b .text) (b .recall) text recall
-        → replied reply (stores text recall (b .side)) ≡ editedTo Q n b (done (searched way p))
+    pub search-done : (t : SideReply) (reply : EditorReply) (text recall : List ℕ) → reply ≡ replyOf Main n t
+        → EditsSide t (n .main) (carried Move way found) (b .text) (b .recall) text recall
+        → record { reply = reply; stores = stores text recall (b .side) } ≡ editedTo Q n b (done (searched way p))
     unfolding plainOf
     search-done t reply text recall e turns =
         main-done (carried Move way found (p .main)) (searched way p) found-as (sound-fits T Q _ (searched-sound T Q way p sound-held))
@@ -126,14 +126,15 @@ module _ (Q : ℕ) (n : Lengths) (b : Stores) (sound : Sound Q n b) where
 
   -- Where the pattern does not stand right of the cursor there is only the bell.
   pub substitute-rings : matches (p .pattern) (p .main .text) ≡ false
-      → (reply : Reply) → reply ≡ record { code = 0; steps = 0; bell = true; lengths = n }
-      → replied reply b ≡ editedTo Q n b (done (substituted p))
+      → {reply : EditorReply} {report : Report} → reply ≡ record { code = 0; report = report; lengths = n } → report ≡ rang
+      → record { reply = reply; stores = b } ≡ editedTo Q n b (done (substituted p))
   unfolding substituted carried plainOf
-  substitute-rings no-match reply e =
-      let same : rang p ≡ substituted p = sym (cond-false _ _ no-match) in
+  substitute-rings no-match {reply} e said =
+      let same : reporting rang p ≡ substituted p = sym (cond-false _ _ no-match) in
       let room = ap (λ did. fits T Q (did .state)) (sym same) ∙ sound-fits T Q p sound-held in
-      main-done (rang (p .main)) (substituted p) same room (doneTurn 0 true (n .main)) reply (b .text) (b .recall) e
-      (not-moved (on-side Q n b sound Main) Left)
+      main-done (reporting rang (p .main)) (substituted p) same room (doneReply rang (n .main)) reply (b .text) (b .recall)
+      (e ∙ λ i. record { code = 0; report = said i; lengths = n })
+      (not-moved (on-side Q n b sound Main) Left refl refl)
 
   -- The pattern is dropped, the replacement goes in around the cursor, and the pattern is all that the recall store then holds.
   module _ (dropped : List ℕ) (less : dropped ≡ gapped T (splice 0 (n .pl) empty (ungap (n .main .l) (n .main .r) (b .text)))) where
@@ -168,7 +169,7 @@ module _ (Q : ℕ) (n : Lengths) (b : Stores) (sound : Sound Q n b) where
   exchanged-sizes = λ i. record { l = sym exchanged-left i; r = sym exchanged-right i; rl = 0; rr = sym (held .pattern) i }
 
   module _ (match : matches (p .pattern) (p .main .text) ≡ true) (room : fits T Q (substituted p .state) ≡ true) where
-    exchanged-as : quiet (withSide Main (exchanged p) p) ≡ substituted p
+    exchanged-as : reporting quiet (withSide Main (exchanged p) p) ≡ substituted p
     unfolding substituted
     exchanged-as = sym (cond-true _ _ match)
 
@@ -180,14 +181,14 @@ module _ (Q : ℕ) (n : Lengths) (b : Stores) (sound : Sound Q n b) where
     pub exchangeable : Exchangeable n T
     exchangeable = record { stands = pattern-stands match; room = rw (exchanged-left, exchanged-right) at exchanged-fits }
 
-    pub substitute-done : (dropped text recall : List ℕ) (reply : Reply)
+    pub substitute-done : (dropped text recall : List ℕ) (reply : EditorReply)
         → dropped ≡ gapped T (splice 0 (n .pl) empty (ungap (n .main .l) (n .main .r) (b .text)))
         → text ≡ gapped (length dropped)
         (splice 0 0 (unpair (n .xl) (n .xr) replacementLent) (ungap (n .main .l) (n .main .r - n .pl) dropped))
         → recall ≡ patternLent ++ zeros (length (b .recall) - length patternLent)
-        → reply ≡ replyOf Main n (doneTurn 0 false (exchangedBy n))
-        → replied reply (stores text recall (b .side)) ≡ editedTo Q n b (done (substituted p))
-    substitute-done dropped text recall reply less e f answer =
-        main-done (quiet (exchanged p)) (substituted p) exchanged-as room _ reply text recall answer
-        (landed (n .main) (b .text) (b .recall) (quiet (exchanged p)) exchanged-fits exchanged-sizes
+        → {t : SideReply} {report : Report} → reply ≡ replyOf Main n t → t ≡ doneReply report (exchangedBy n) → report ≡ quiet
+        → record { reply = reply; stores = stores text recall (b .side) } ≡ editedTo Q n b (done (substituted p))
+    substitute-done dropped text recall reply less e f lifted answer said =
+        main-done (reporting quiet (exchanged p)) (substituted p) exchanged-as room _ reply text recall lifted
+        (landed (n .main) (b .text) (b .recall) (reporting quiet (exchanged p)) answer said exchanged-fits exchanged-sizes
         (e ∙ replacement-placed dropped less) (f ∙ pattern-recalled))

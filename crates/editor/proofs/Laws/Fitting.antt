@@ -1,13 +1,14 @@
 -- What a session tells of its record's lengths: they are the lengths of the texts held, and they keep to the stores.
-use mathlib.Core.Path.{_≡_}
+use mathlib.Core.Path.{_≡_, _∙_}
+use mathlib.Core.List.{List}
 use Prim.Native.Nat.{ℕ, _+_, _*_, _≤_}
 use native.Mathlib.Omega.{arith}
 use lib.ListN.{length}
+use Rattle.editor.specs.Words.{Mode, Main, Quoted, Lengths}
 use Rattle.gap.proofs.Laws.Layout.{is-pair}
-use Rattle.editor.specs.Words.{Main, Quoted, Lengths}
-use Rattle.editor.specs.Plain.{Plain}
-use Rattle.editor.specs.Bytes.{Stores, quarterOf, lengthsOf, plainOf}
-use Rattle.editor.specs.Promise.{Sound}
+use Rattle.editor.specs.Rules.Plain.{Plain}
+use Rattle.editor.specs.Rules.Bytes.{Stores, quarter, quarterOf, lengthsOf, plainOf}
+use Rattle.editor.specs.Wording.Promise.{Sound, patternTaken, Searchable}
 use Rattle.editor.proofs.Laws.Quarters.{length-quarter}
 use Rattle.editor.proofs.Laws.Session.{measured, passed}
 use Rattle.editor.proofs.Laws.Replies.{on-side}
@@ -62,3 +63,29 @@ module _ (Q : ℕ) (n : Lengths) (b : Stores) (sound : Sound Q n b) where
         pattern = omega (arith, long 2 (omega arith), is-pair (n .pl) 0 (quarterOf Q 2 (b .side)) (tests .pattern) .fits);
         replacement = omega (arith, long 3 (omega arith), is-pair (n .xl) (n .xr) (quarterOf Q 3 (b .side)) (tests .replacement) .fits);
       }
+
+  -- Text and side store of a session can be searched.
+  pub searchable : Q ≡ quarter → Searchable n (b .text) (b .side)
+  searchable e =
+      let fit = fitting in
+      record {
+        document = on-side Q n b sound Main .gap;
+        pattern = rw e at (fit .pattern);
+        quotation = rw e at (fit .quotation);
+        quarters = rw e at (fit .side);
+      }
+
+-- So they can once the quotation has become the pattern.
+pub taken-searchable : (n m : Lengths) (text side then : List ℕ) → Searchable n text side → m ≡ patternTaken (n .mode) n
+    → length then ≡ length side → Searchable m text then
+taken-searchable n m text side then asked e same =
+    rw e (go (n .mode))
+  where
+    go : (mode : Mode) → Searchable (patternTaken mode n) text then
+    go Main = record {
+      document = asked .document;
+      pattern = asked .pattern;
+      quotation = asked .quotation;
+      quarters = same ∙ asked .quarters;
+    }
+    go Quoted = record { document = asked .document; pattern = asked .quotation; quotation = omega arith; quarters = same ∙ asked .quarters }

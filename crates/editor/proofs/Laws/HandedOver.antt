@@ -7,30 +7,40 @@ use Prim.Native.Nat.{ℕ, _+_, _-_, _*_, _≤_}
 use native.Mathlib.Nat.{zero-mul}
 use native.Mathlib.Omega.{arith}
 use lib.ListN.{length, take, length-append}
-use Rattle.gap.specs.Sequence.{part, patch, zeros}
-use Rattle.gap.specs.Doc.{Doc, empty, content}
-use Rattle.gap.specs.Layout.{gapped, paired, ungap}
+use lib.Seq.{length-take-le}
+use Rattle.gap.specs.Rules.Sequence.{part, patch, zeros}
+use Rattle.gap.specs.Rules.Doc.{Doc, empty, content}
+use Rattle.gap.specs.Rules.Layout.{gapped, paired, ungap}
 use Rattle.gap.proofs.Laws.Tests.{cond-true}
-use Rattle.gap.proofs.Laws.Sequence.{length-zeros}
-use Rattle.gap.proofs.Laws.Runs.{patch-middle}
+use borrow.Rule.Slice.PartMut.{midOf, putMid}
+use Rattle.gap.proofs.Laws.Sequence.{length-part, length-zeros}
+use Rattle.gap.proofs.Laws.Runs.{patch-middle, part-back, part-lent}
 use Rattle.gap.proofs.Laws.Layout.{length-gapped, length-paired}
 use Rattle.editor.specs.Words.{Direction, Mode, Main, Quoted, Lengths}
-use Rattle.editor.specs.Plain.{Plain, Did, done}
-use Rattle.editor.specs.Keys.{withPattern, searched, found, withReplacement, substituted, replaced, fits, bounded}
-use Rattle.editor.specs.Bytes.{Stores, Edited, quarterOf, alone, lengthsOf, storesOf, plainOf, editedTo}
-use Rattle.editor.specs.Promise.{Sound, stores, noSizes, patternTaken, replacementTaken}
-use Rattle.editor.proofs.Laws.Quotation.{no-quotation}
+use Rattle.editor.specs.Rules.Plain.{Plain, Did, done}
+use Rattle.editor.specs.Rules.Keys.{withPattern, searched, found, withReplacement, substituted, replaced, fits, bounded}
+use Rattle.editor.specs.Rules.Bytes.{Stores, Edited, quarterOf, alone, lengthsOf, storesOf, plainOf, editedTo}
+use Rattle.editor.specs.Wording.Promise.{Sound, stores, noSizes, patternTaken, replacementTaken, handed}
+use Rattle.editor.proofs.Laws.Quotation.{no-quotation, copied-whole}
 use Rattle.editor.proofs.Laws.Session.{measured}
 use Rattle.editor.proofs.Laws.Sound.{SoundPlain}
 use Rattle.editor.proofs.Laws.States.{sound-fits, with-pattern-sound, found-sound, with-replacement-sound}
 use Rattle.editor.proofs.Theorems.Layouts.{Encoded, plain-of-encoded, encoded-ok, encoded-sized, session-encoded}
 
--- What `give_quotation` does, call by call.
-pub quotation-given : (Q l r at : ℕ) (side block copied exit : List ℕ) → block ≡ paired Q (ungap l r (take Q side))
-    → copied ≡ patch at block side → exit ≡ patch 0 (zeros (2 * Q)) copied
-    → exit ≡ patch 0 (zeros (2 * Q)) (patch at (paired Q (ungap l r (quarterOf Q 0 side))) side)
+-- What `give_quotation` does, call by call: the quotation is copied out, given as a pair, and its two quarters are cleared.
+pub quotation-given : (Q l r at : ℕ) (side own rest given then : List ℕ) → length side ≡ 4 * Q → at + Q ≤ 4 * Q
+    → length own ≡ Q → own ≡ take Q side ++ rest
+    → given ≡ paired (length (midOf at (at + Q - at) side)) (ungap l r own) → length given ≡ length (midOf at (at + Q - at) side)
+    → then ≡ patch 0 (zeros (2 * Q)) (putMid at (at + Q - at) side given)
+    → then ≡ patch 0 (zeros (2 * Q)) (patch at (paired Q (ungap l r (quarterOf Q 0 side))) side)
 unfolding part
-quotation-given Q l r at side block copied exit first second third = third ∙ rw (second, first, zero-mul)
+quotation-given Q l r at side own rest given then long fits size copied pair same cleared =
+    let quarter-long : length (midOf at (at + Q - at) side) ≡ Q = ap length (part-lent at Q side (omega arith)) ∙ length-part at Q side (omega arith) in
+    let out : own ≡ take Q side = copied-whole Q (take Q side) own rest (length-take-le Q side (omega arith)) size copied in
+    let paired-so : given ≡ paired Q (ungap l r (take Q side)) = pair ∙ λ i. paired (quarter-long i) (ungap l r (out i)) in
+    let k : at + Q - at ≡ Q = omega arith in
+    cleared ∙ ap (patch 0 (zeros (2 * Q))) (part-back at (at + Q - at) side given (same ∙ quarter-long ∙ sym k) ∙ ap (λ run. patch at run side) paired-so)
+    ∙ rw zero-mul
 
 -- The run takes the place of y, and the front becomes free.
 placed-behind : (front x y z run : List ℕ) (k at : ℕ) → length front ≡ k → k + length x ≡ at → length y ≡ length run
@@ -122,19 +132,18 @@ module _ (Q : ℕ) (n : Lengths) (b : Stores) (sound : Sound Q n b) where
       (encoded-holds T Q q m (handedOver Q at (p .quoted .text) b) (known .low) (known .high) s e
       (f ∙ ap (handedOver Q at (p .quoted .text)) (encoded .stores)))
 
-  in-mode : (next : Mode → Plain → Plain) {mode : Mode} {m : Lengths} {c : Stores} → n .mode ≡ mode → Holds Q (next mode p) m c
-      → Holds Q (next (p .mode) p) m c
-  unfolding plainOf
-  in-mode next e h = record { sound = h .sound; plain = h .plain ∙ ap (λ mode. next mode p) (sym e) }
+  kept : {m : Lengths} {side : List ℕ} → m ≡ n → side ≡ b .side → Holds Q p m (stores (b .text) (b .recall) side)
+  kept e here = rw (e, here) (record { sound = sound; plain = refl })
 
   -- In QUOTED the quotation becomes the pattern, or the replacement; in MAIN everything stays.
-  pub pattern-holds : (m : Lengths) (side : List ℕ) → n .mode ≡ Quoted → m ≡ patternTaken n → side ≡ sideGiven (2 * Q)
-      → Holds Q (withPattern (p .mode) p) m (stores (b .text) (b .recall) side)
+  pattern-in : (mode : Mode) {m : Lengths} {side : List ℕ} → n .mode ≡ mode → m ≡ patternTaken mode n
+      → side ≡ handed Q mode (n .quoted) (2 * Q) (b .side) → Holds Q (withPattern mode p) m (stores (b .text) (b .recall) side)
   unfolding withPattern lengthsOf
-  pattern-holds m side mode e here =
+  pattern-in Main mode e here = kept e here
+  pattern-in Quoted {m} {side} mode e here =
       let same = encoded .lengths in
       let whole = length-append (p .quoted .text .l) (p .quoted .text .r) ∙ (λ i. same i .quoted .l + same i .quoted .r) in
-      let lengths : lengthsOf (withPattern Quoted p) ≡ patternTaken n = λ i. record {
+      let lengths : lengthsOf (withPattern Quoted p) ≡ patternTaken Quoted n = λ i. record {
         main = same i .main;
         quoted = noSizes;
         xl = same i .xl;
@@ -142,20 +151,16 @@ module _ (Q : ℕ) (n : Lengths) (b : Stores) (sound : Sound Q n b) where
         pl = whole i;
         mode = Main;
       } in
-      in-mode withPattern mode
-      (handed-holds (2 * Q) (withPattern Quoted p) m side (with-pattern-sound T Q Quoted p (encoded .sound)) (lengths ∙ sym e)
-      (pattern-given T Q p (encoded .sound)) here)
+      handed-holds (2 * Q) (withPattern Quoted p) m side (with-pattern-sound T Q Quoted p (encoded .sound)) (lengths ∙ sym e)
+      (pattern-given T Q p (encoded .sound)) here
 
-  pub pattern-kept : n .mode ≡ Main → Holds Q (withPattern (p .mode) p) n b
-  unfolding withPattern
-  pattern-kept mode = in-mode withPattern mode (record { sound = sound; plain = refl })
-
-  pub replacement-holds : (m : Lengths) (side : List ℕ) → n .mode ≡ Quoted → m ≡ replacementTaken n → side ≡ sideGiven (3 * Q)
-      → Holds Q (withReplacement (p .mode) p) m (stores (b .text) (b .recall) side)
+  replacement-in : (mode : Mode) {m : Lengths} {side : List ℕ} → n .mode ≡ mode → m ≡ replacementTaken mode n
+      → side ≡ handed Q mode (n .quoted) (3 * Q) (b .side) → Holds Q (withReplacement mode p) m (stores (b .text) (b .recall) side)
   unfolding withReplacement lengthsOf
-  replacement-holds m side mode e here =
+  replacement-in Main mode e here = kept e here
+  replacement-in Quoted {m} {side} mode e here =
       let same = encoded .lengths in
-      let lengths : lengthsOf (withReplacement Quoted p) ≡ replacementTaken n = λ i. record {
+      let lengths : lengthsOf (withReplacement Quoted p) ≡ replacementTaken Quoted n = λ i. record {
         main = same i .main;
         quoted = noSizes;
         xl = same i .quoted .l;
@@ -163,13 +168,18 @@ module _ (Q : ℕ) (n : Lengths) (b : Stores) (sound : Sound Q n b) where
         pl = same i .pl;
         mode = Main;
       } in
-      in-mode withReplacement mode
-      (handed-holds (3 * Q) (withReplacement Quoted p) m side (with-replacement-sound T Q Quoted p (encoded .sound)) (lengths ∙ sym e)
-      (replacement-given T Q p (encoded .sound)) here)
+      handed-holds (3 * Q) (withReplacement Quoted p) m side (with-replacement-sound T Q Quoted p (encoded .sound)) (lengths ∙ sym e)
+      (replacement-given T Q p (encoded .sound)) here
 
-  pub replacement-kept : n .mode ≡ Main → Holds Q (withReplacement (p .mode) p) n b
-  unfolding withReplacement
-  replacement-kept mode = in-mode withReplacement mode (record { sound = sound; plain = refl })
+  pub pattern-holds : {m : Lengths} {side : List ℕ} → m ≡ patternTaken (n .mode) n → side ≡ handed Q (n .mode) (n .quoted) (2 * Q) (b .side)
+      → Holds Q (withPattern (p .mode) p) m (stores (b .text) (b .recall) side)
+  unfolding plainOf
+  pattern-holds e here = pattern-in (n .mode) refl e here
+
+  pub replacement-holds : {m : Lengths} {side : List ℕ} → m ≡ replacementTaken (n .mode) n
+      → side ≡ handed Q (n .mode) (n .quoted) (3 * Q) (b .side) → Holds Q (withReplacement (p .mode) p) m (stores (b .text) (b .recall) side)
+  unfolding plainOf
+  replacement-holds e here = replacement-in (n .mode) refl e here
 
   -- A key that is done on the record and stores handed over is done on those before: nothing of what it was given is left then.
   module _ {q : Plain} {m : Lengths} {side : List ℕ} (h : Holds Q q m (stores (b .text) (b .recall) side)) where

@@ -11,10 +11,10 @@ use Rattle.gap.specs.declared.Search.{Search}
 use Rattle.gap.specs.declared.Search.the-variants.{Nowhere}
 use Rattle.gap.specs.declared.Direction.{Direction}
 use Rattle.gap.specs.declared.Direction.the-variants.{Left, Right}
-use Rattle.gap.specs.Sequence.{every, begins, counted}
-use Rattle.gap.specs.Doc.{Doc, content}
-use Rattle.gap.specs.Layout.{ungap}
-use Rattle.gap.specs.Nearest.{nearest, distance}
+use Rattle.gap.specs.Rules.Sequence.{every, begins, counted}
+use Rattle.gap.specs.Rules.Doc.{Doc, content}
+use Rattle.gap.specs.Rules.Layout.{ungap}
+use Rattle.gap.specs.Rules.Nearest.{nearest, distance}
 use Rattle.gap.proofs.Laws.Doc.{behind-left, moves-right}
 use Rattle.gap.proofs.Laws.Runs.{tailOf, tail-lent}
 use Rattle.gap.proofs.Laws.Layout.{length-left}
@@ -22,8 +22,8 @@ use Rattle.gap.proofs.Laws.Nearest.{none-nowhere, nearest-same}
 use Rattle.gap.proofs.Laws.Scans.{scan-start, scan-none}
 use Rattle.gap.proofs.Laws.RowScans.{numbers-at, one-row, row-none, row-last}
 use Rattle.gap.proofs.Laws.Compared.{begins-short, begins-front}
-use Rattle.editor.specs.Keys.{matches}
-use Rattle.editor.specs.Searches.{lowest, matchAway, matchLeft, Reach, likelyAt}
+use Rattle.editor.specs.Rules.Keys.{matches}
+use Rattle.editor.specs.Wording.Searches.{lowest, matchAway, matchLeft, Reach, likelyAt}
 use Rattle.editor.proofs.Laws.MatchTests.{unlikely}
 
 -- What lies within the text from one distance to another does so between them.

@@ -8,10 +8,10 @@ use native.Mathlib.Nat.{add-zero}
 use native.Mathlib.Omega.{arith}
 use lib.ListN.{length, drop, getD}
 use borrow.Author.Tests.{eq-eqb}
-use Rattle.gap.specs.Sequence.{begins}
+use Rattle.gap.specs.Rules.Sequence.{begins}
 use Rattle.gap.proofs.Laws.Tests.{decided, clash, and-both}
 use Rattle.gap.proofs.Laws.Compared.{byte-stands}
-use Rattle.editor.specs.Searches.{likelyAt}
+use Rattle.editor.specs.Wording.Searches.{likelyAt}
 
 -- A match is likely where there is one; and where it is not likely, there is none.
 module _ (pattern text : List ℕ) (at k : ℕ) (inside : k < length pattern) where

@@ -4,8 +4,9 @@ use mathlib.Core.Logic.{_⊎_, inl, inr, _↔_}
 use mathlib.Core.Bool.{Bool, true, false, cond}
 use Prim.Native.Nat.{ℕ}
 use Rattle.editor.specs.Words.{Key}
-use Rattle.editor.specs.Plain.{Plain, Did, KEY, FULL, Outcome, refused, done}
-use Rattle.editor.specs.Keys.{soundKey, pressed, fits, bounded, key}
+use Rattle.editor.specs.Rules.Refusals.{KEY, FULL}
+use Rattle.editor.specs.Rules.Plain.{Plain, Did, Outcome, refused, done}
+use Rattle.editor.specs.Rules.Keys.{soundKey, pressed, fits, bounded, key}
 
 -- The outcome by the tests of soundness and of room.
 abbrev decide : Bool → Bool → Did Plain → Outcome

@@ -11,17 +11,18 @@ use lib.ListN.{length, take, drop, getD, length-append, length-drop, drop-of-len
 use lib.Seq.{take-suc, drop-cons, length-take-le, drop-append-add}
 use borrow.Author.Tests.{eq-eqb, ne-eqb, leb-true, leb-false, lt-ltb, le-ltb}
 use borrow.Rule.Slice.PartAt.{part-to-end}
-use Rattle.gap.specs.Sequence.{lastOf}
-use Rattle.gap.specs.Doc.{Doc, room, move, times}
-use Rattle.gap.specs.Nearest.{nearest, distance}
-use Rattle.gap.specs.Layout.{ungap}
+use Rattle.gap.specs.Rules.Sequence.{lastOf}
+use Rattle.gap.specs.Rules.Doc.{Doc, room, move, times}
+use Rattle.gap.specs.Rules.Nearest.{nearest, distance}
+use Rattle.gap.specs.Rules.Layout.{ungap}
 use Rattle.gap.proofs.Laws.Tests.{decided, or-right, cond-true, cond-false}
 use Rattle.gap.proofs.Laws.Doc.{back-append, moves-left, moves-right, room-moves}
 use Rattle.gap.proofs.Laws.Nearest.{least-reached, none-nowhere, nearest-same}
 use Rattle.editor.specs.Words.{Direction, Left, Right, Search}
 use Rattle.editor.specs.Words.{Place, Character, Word, LineBeginning, LineEnding, Document}
-use Rattle.editor.specs.Places.{isNewline, blank, emptyOr, isEmpty, lineBeginning, lineEnding, word, documentEnd, isAt}
-use Rattle.editor.specs.Promise.{wholeOf}
+use Rattle.editor.specs.Rules.Places.{isNewline, blank, emptyOr, isEmpty, lineBeginning, lineEnding, word, documentEnd, isAt}
+use Rattle.editor.specs.Wording.Promise.{wholeOf}
+use Rattle.editor.specs.Wording.Searches.{lowest, facing}
 
 -- The cursor at place p of a text.
 abbrev pub cutAt : ℕ → List ℕ → Doc
@@ -136,36 +137,6 @@ last-append x s some =
     let behind : length (x ++ s) - 1 ≡ length x + (length s - 1) = simp length-append (omega arith) in
     rw (behind, drop-append-add)
 
--- Whether d moves from the end of a text, or from its front, lead to a place, by that text alone.
-abbrev pub placeLeft : Place → List ℕ → ℕ → Bool
-placeLeft place t d = isAt place Left (cutAt (length t - d) t)
-
-abbrev pub placeRight : Place → List ℕ → ℕ → Bool
-placeRight place t d = isAt place Right (cutAt d t)
-
-module _ (place : Place) (l r : List ℕ) where
-  at-left : (d : ℕ) → 1 ≤ d → d < 1 + length l
-      → placeLeft place l d ≡ isAt place Left (times (move Left) d (record { l = l; r = r }))
-  at-left d low high =
-      rw (moves-left, drop-cons l (length l - d) 0 (omega arith)) (same-right place (take (length l - d) l) _ r _)
-
-  at-right : (d : ℕ) → 1 ≤ d → d < 1 + length r
-      → placeRight place r d ≡ isAt place Right (times (move Right) d (record { l = l; r = r }))
-  at-right d low high =
-      let size = length-take-le d r (omega arith) in
-      rw (moves-right, same-left place (take d r) (l ++ take d r) (drop d r) (sym (last-append l (take d r) (omega arith))))
-
-  -- The distance is a search through one text.
-  pub distance-left : nearest (placeLeft place l) (length l) 1
-      ≡ distance Left (isAt place Left) (record { l = l; r = r })
-  unfolding distance
-  distance-left = nearest-same (length l) 1 at-left
-
-  pub distance-right : nearest (placeRight place r) (length r) 1
-      ≡ distance Right (isAt place Right) (record { l = l; r = r })
-  unfolding distance
-  distance-right = nearest-same (length r) 1 at-right
-
 -- To the end of the text the distance is all that lies there, or none where nothing does.
 module _ (way : Direction) (d : Doc) where
   end-moves : (n : ℕ) → isAt Document way (times (move way) n d) ≡ ltb (room way d - n) 1
@@ -188,16 +159,54 @@ module _ (way : Direction) (d : Doc) where
       ∙ sym (none-nowhere _ (room way d) 1 (λ n low high. absurd (omega (arith, leb-false 1 (room way d) short)))))
       (decided (leb 1 (room way d)))
 
+-- Whether d moves over the text that lies in the direction lead to a place, by that text alone.
+abbrev pub placeAway : Place → Direction → List ℕ → ℕ → Bool
+placeAway place way t d = isAt place way (cutAt (lowest way (length t) d d) t)
+
+module _ (place : Place) (t other : List ℕ) where
+  at-away : (way : Direction) (d : ℕ) → 1 ≤ d → d < 1 + length t → placeAway place way t d ≡ isAt place way (times (move way) d (facing way t other))
+  at-away Left d low high =
+      rw (moves-left, drop-cons t (length t - d) 0 (omega arith)) (same-right place (take (length t - d) t) _ other _)
+  at-away Right d low high =
+      let size = length-take-le d t (omega arith) in
+      rw (moves-right, same-left place (take d t) (other ++ take d t) (drop d t) (sym (last-append other (take d t) (omega arith))))
+
+  room-facing : (way : Direction) → length t ≡ room way (facing way t other)
+  room-facing Left = refl
+  room-facing Right = refl
+
+  -- The distance is a search through one text.
+  pub distance-away : (way : Direction) → nearest (placeAway place way t) (length t) 1 ≡ distance way (isAt place way) (facing way t other)
+  unfolding distance
+  distance-away way =
+      nearest-same (length t) 1 (at-away way)
+      ∙ ap (λ n. nearest (λ d. isAt place way (times (move way) d (facing way t other))) n 1) (room-facing way)
+
+  -- To its end it is all of it.
+  pub distance-whole : (way : Direction) → wholeOf (length t) ≡ distance way (isAt Document way) (facing way t other)
+  distance-whole way = ap wholeOf (room-facing way) ∙ distance-end way (facing way t other)
+
+pub stands-away : (place : Place) (way : Direction) (t : List ℕ) (d p : ℕ) {ok : Bool} → p ≡ lowest way (length t) d d
+    → ok ≡ isAt place way (cutAt p t) → placeAway place way t d ≡ ok
+stands-away place way t d p e tested = sym (tested ∙ ap (λ p. isAt place way (cutAt p t)) e)
+
+pub lowest-within : (way : Direction) (n d : ℕ) → d ≤ n → lowest way n d d ≤ n
+lowest-within Left n d h = omega arith
+lowest-within Right n d h = h
+
 -- In a gap store: the parts that the code lends are the texts.
 module _ (place : Place) {way : Direction} {found : Search} (l r : ℕ) (s : List ℕ) where
-  pub gap-left : way ≡ Left → ((y : List ℕ) → found ≡ distance Left (isAt place Left) (record { l = take l s; r = y }))
+  pub gap-left : way ≡ Left → ((other : List ℕ) → found ≡ distance way (isAt place way) (facing way (take l s) other))
       → found ≡ distance way (isAt place way) (ungap l r s)
   unfolding ungap
-  gap-left toward e = distance-known (ungap l r s) refl toward (e (drop (length s - r) s))
+  gap-left toward e =
+      let known = rw toward at (e (drop (length s - r) s)) in
+      distance-known (ungap l r s) refl toward known
 
   pub gap-right : way ≡ Right
-      → ((x : List ℕ) → found ≡ distance Right (isAt place Right)
-      (record { l = x; r = take (length s - (length s - r)) (drop (length s - r) s) }))
+      → ((other : List ℕ) → found ≡ distance way (isAt place way) (facing way (take (length s - (length s - r)) (drop (length s - r) s)) other))
       → found ≡ distance way (isAt place way) (ungap l r s)
   unfolding ungap
-  gap-right toward e = distance-known (ungap l r s) refl toward (rw part-to-end at (e (take l s)))
+  gap-right toward e =
+      let known = rw (toward, part-to-end) at (e (take l s)) in
+      distance-known (ungap l r s) refl toward known

@@ -7,12 +7,12 @@ use native.Mathlib.Nat.{suc-mul, zero-mul, mul-le-mul-right, not-suc-le-zero, le
 use native.Mathlib.Omega.{arith}
 use lib.ListN.{length, take, drop, length-append, length-drop, take-append-drop}
 use lib.Seq.{length-take-le, take-at, take-all, drop-append-add}
-use Rattle.gap.specs.Sequence.{part}
-use Rattle.gap.specs.Layout.{gapped, paired}
+use Rattle.gap.specs.Rules.Sequence.{part}
+use Rattle.gap.specs.Rules.Layout.{gapped, paired}
 use Rattle.gap.proofs.Laws.Sequence.{length-part}
 use Rattle.gap.proofs.Laws.Layout.{length-gapped, length-paired}
-use Rattle.editor.specs.Plain.{Plain}
-use Rattle.editor.specs.Bytes.{quarterOf, alone, storesOf}
+use Rattle.editor.specs.Rules.Plain.{Plain}
+use Rattle.editor.specs.Rules.Bytes.{quarterOf, alone, storesOf}
 use Rattle.editor.proofs.Laws.Sound.{SoundPlain}
 
 -- Quarters 0 to n, joined.

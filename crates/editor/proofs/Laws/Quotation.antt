@@ -6,16 +6,16 @@ use native.Mathlib.Nat.{zero-mul, one-mul, sub-zero}
 use native.Mathlib.Omega.{arith}
 use lib.ListN.{length, take, drop, length-append, take-append-drop}
 use lib.Seq.{length-take-le, take-all, take-at, drop-at, drop-drop}
-use Rattle.gap.specs.Sequence.{part, patch, zeros}
-use Rattle.gap.specs.Doc.{empty}
-use Rattle.gap.specs.Layout.{gapped, paired}
+use Rattle.gap.specs.Rules.Sequence.{part, patch, zeros}
+use Rattle.gap.specs.Rules.Doc.{empty}
+use Rattle.gap.specs.Rules.Layout.{gapped, paired}
 use Rattle.gap.proofs.Laws.Sequence.{length-zeros}
 use Rattle.gap.proofs.Laws.Runs.{zeros-both, part-middle, patch-middle}
 use Rattle.editor.specs.Words.{Sizes}
-use Rattle.editor.specs.declared.Turn.{Turn}
-use Rattle.editor.specs.Plain.{Side, Did}
-use Rattle.editor.specs.Bytes.{quarterOf}
-use Rattle.editor.specs.Promise.{turned, written, sideHeld, Turns}
+use Rattle.editor.specs.declared.SideReply.{SideReply}
+use Rattle.editor.specs.Rules.Plain.{Side, Did}
+use Rattle.editor.specs.Rules.Bytes.{quarterOf}
+use Rattle.editor.specs.Wording.Promise.{written, sideHeld, EditsSide}
 use Rattle.editor.proofs.Laws.Quarters.{length-quarter}
 
 -- A store is its first two quarters and what stands behind them.
@@ -41,14 +41,17 @@ pub quotation-cleared : (Q : ℕ) (s : List ℕ) → patch 0 (zeros (2 * Q)) s �
 unfolding patch
 quotation-cleared Q s = rw length-zeros (no-quotation Q (drop (2 * Q) s))
 
+-- A run copied to the front of an array of its own length is all of it.
+pub copied-whole : (k : ℕ) (run own rest : List ℕ) → length run ≡ k → length own ≡ k → own ≡ run ++ rest → own ≡ run
+copied-whole k run own rest long same e = sym (take-all k own (omega arith)) ∙ ap (take k) e ∙ take-at run rest k long
+
 module _ (Q : ℕ) (side : List ℕ) (long : length side ≡ 4 * Q) where
   length-second : length (quarterOf Q 1 side) ≡ Q
   length-second = length-quarter Q 3 1 side long (omega arith)
 
   -- The recall text's quarter, copied into an array of its length.
   pub second-copied : (own rest : List ℕ) → length own ≡ Q → own ≡ quarterOf Q 1 side ++ rest → own ≡ quarterOf Q 1 side
-  second-copied own rest same e =
-      sym (take-all Q own (omega arith)) ∙ ap (take Q) e ∙ take-at (quarterOf Q 1 side) rest Q length-second
+  second-copied own rest same e = copied-whole Q (quarterOf Q 1 side) own rest length-second same e
 
   -- The text's quarter where it was, and the array's bytes copied back behind it.
   module _ (text recall exit : List ℕ) (first : length text ≡ Q) (second : length recall ≡ Q)
@@ -70,17 +73,17 @@ module _ (Q : ℕ) (side : List ℕ) (long : length side ≡ 4 * Q) where
         ∙ drop-at (text ++ recall) _ (2 * Q) (rw length-append (omega arith))
 
   -- A key on the text's quarter and on the array is a key on the two quarters.
-  pub quotation-turned : (t : Turn) (n : Sizes) (edit : Side → Did Side) (own text recall exit : List ℕ) → own ≡ quarterOf Q 1 side
+  pub quotation-edited : (t : SideReply) (n : Sizes) (edit : Side → Did Side) (own text recall exit : List ℕ) → own ≡ quarterOf Q 1 side
       → length text ≡ length (take Q side) → length recall ≡ length own
-      → Turns t n edit (take Q side) own text recall → exit ≡ patch Q recall (text ++ drop Q side)
-      → Turns t n edit (quarterOf Q 0 side) (quarterOf Q 1 side) (quarterOf Q 0 exit) (quarterOf Q 1 exit)
+      → EditsSide t n edit (take Q side) own text recall → exit ≡ patch Q recall (text ++ drop Q side)
+      → EditsSide t n edit (quarterOf Q 0 side) (quarterOf Q 1 side) (quarterOf Q 0 exit) (quarterOf Q 1 exit)
       × (drop (2 * Q) exit ≡ drop (2 * Q) side)
   unfolding part
-  quotation-turned t n edit own text recall exit known first second turns back =
+  quotation-edited t n edit own text recall exit known first second turns back =
       let one : length text ≡ Q = first ∙ length-take-le Q side (omega arith) in
       let other : length recall ≡ Q = second ∙ ap length known ∙ length-second in
       let before : take Q side ≡ quarterOf Q 0 side = rw zero-mul in (
-        (λ i. turned t (first-back text recall exit one other back i) (second-back text recall exit one other back i))
+        (λ i. record { reply = t; text = first-back text recall exit one other back i; recall = second-back text recall exit one other back i })
             ∙ turns ∙ λ i. written n (before i) (known i) (edit (sideHeld n (before i) (known i))),
         rest-back text recall exit one other back,
       )

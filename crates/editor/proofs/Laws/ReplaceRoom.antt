@@ -1,32 +1,34 @@
 -- REPLACE on record and stores: its test of room, made before anything is written, is FULL of the plain editor exactly.
 use mathlib.Core.Path.{_≡_, refl, sym, ap, _∙_}
 use mathlib.Core.Logic.{⊎-elim}
-use mathlib.Core.Bool.{Bool, true, false}
-use Prim.Native.Nat.{ℕ, _+_, _-_, _*_, _≤_, _<_}
+use mathlib.Core.Bool.{Bool, true, false, not, _||_, true≢false, false≢true}
+use lib.Dec.{leb}
+use borrow.Author.Tests.{le-leb, lt-leb, leb-true, leb-false}
+use Prim.Native.Nat.{ℕ, _+_, _-_, _*_, _<_, _≤_}
 use native.Mathlib.Omega.{arith}
 use lib.ListN.{length, take, drop, length-append}
 use lib.Seq.{drop-at}
-use Rattle.gap.specs.Sequence.{begins}
-use Rattle.gap.specs.Doc.{content}
-use Rattle.gap.specs.Layout.{ungap}
+use Rattle.gap.specs.Rules.Sequence.{begins}
+use Rattle.gap.specs.Rules.Doc.{content}
+use Rattle.gap.specs.Rules.Layout.{ungap}
 use Rattle.gap.proofs.Laws.Tests.{decided}
 use Rattle.editor.specs.Words.{Mode, Main, Quoted, Lengths, Replace}
-use Rattle.editor.specs.Plain.{Plain, FULL, refused}
-use Rattle.editor.specs.Keys.{matches, withReplacement, substituted, replaced, soundKey, pressed, key, fits, bounded}
-use Rattle.editor.specs.Bytes.{Stores, plainOf, editedTo}
-use Rattle.editor.specs.declared.Reply.{Reply}
-use Rattle.editor.specs.Promise.{Sound, replied}
+use Rattle.editor.specs.Rules.Refusals.{FULL}
+use Rattle.editor.specs.Rules.Plain.{Plain, refused}
+use Rattle.editor.specs.Rules.Keys.{matches, withReplacement, substituted, replaced, soundKey, pressed, key, fits, bounded}
+use Rattle.editor.specs.Rules.Bytes.{Stores, plainOf, unedited, editedTo}
+use Rattle.editor.specs.declared.EditorReply.{EditorReply}
+use Rattle.editor.specs.Wording.Promise.{Sound, replacementTaken}
 use Rattle.editor.proofs.Laws.Outcomes.{full-refused}
 use Rattle.editor.proofs.Laws.HandedOver.{Holds}
-use Rattle.editor.proofs.Laws.Fitting.{Sized, sizes, fitting}
+use Rattle.editor.proofs.Laws.Fitting.{Sized, sizes, Fitting}
 use Rattle.editor.proofs.Laws.FindReplace.{pattern-lent}
 use Rattle.editor.proofs.Theorems.Layouts.{Encoded, session-encoded}
 use Rattle.editor.proofs.Theorems.Refusals.{replace-full, replace-unmatched}
 
 -- How many bytes REPLACE puts in: the replacement, which in QUOTED is the quotation.
 abbrev placedSize : Mode → Lengths → ℕ
-placedSize Main n = n .xl + n .xr
-placedSize Quoted n = n .quoted .l + n .quoted .r
+placedSize mode n = replacementTaken mode n .xl + replacementTaken mode n .xr
 
 -- A quotation that becomes the replacement leaves document and pattern alone.
 same-match : (mode : Mode) (p : Plain)
@@ -44,6 +46,44 @@ finished-size : {n : Lengths} (mode : Mode) (p : Plain) → Sized n p
 unfolding withReplacement
 finished-size Main p held = simp length-append (omega arith)
 finished-size Quoted p held = simp length-append (omega arith)
+
+-- A quotation that becomes the replacement fits as the quotation does, and leaves document and pattern.
+pub taken-fits : (Q : ℕ) (n m : Lengths) {b : Stores} → m ≡ replacementTaken (n .mode) n → Fitting Q n b
+    → (m .main .l + m .main .r ≤ length (b .text)) × (m .xl + m .xr ≤ Q)
+taken-fits Q n m {b} e fit = rw e (go (n .mode))
+  where
+    go : (mode : Mode) → let m = replacementTaken mode n in (m .main .l + m .main .r ≤ length (b .text)) × (m .xl + m .xr ≤ Q)
+    go Main = (fit .document, fit .replacement)
+    go Quoted = (fit .document, fit .quotation)
+
+pub taken-stands : (n m : Lengths) → m ≡ replacementTaken (n .mode) n → n .pl ≤ n .main .r → m .pl ≤ m .main .r
+taken-stands n m e stands = rw e (go (n .mode))
+  where
+    go : (mode : Mode) → replacementTaken mode n .pl ≤ replacementTaken mode n .main .r
+    go Main = stands
+    go Quoted = stands
+
+same-document : (mode : Mode) (n m : Lengths) → m ≡ replacementTaken mode n
+    → m .main .l + m .main .r - m .pl + (m .xl + m .xr) ≡ n .main .l + n .main .r - n .pl + placedSize mode n
+same-document Main n m e = rw e
+same-document Quoted n m e = rw e
+
+-- The same test without a sum that could wrap.
+pub same-test : (more used size : ℕ) → used ≤ size → leb more (size - used) ≡ leb (used + more) size
+same-test more used size h =
+    ⊎-elim
+    (λ e. let fit : used + more ≤ size = omega (arith, leb-true more (size - used) e) in e ∙ sym (le-leb (used + more) size fit))
+    (λ e. let over : size < used + more = omega (arith, leb-false more (size - used) e) in e ∙ sym (lt-leb (used + more) size over))
+    (decided (leb more (size - used)))
+
+-- What the test of room tells where it fails, and where it passes.
+no-room : (here : Bool) (finished T : ℕ) → (not here || leb finished T) ≡ false → (here ≡ true) × (T < finished)
+no-room true finished T e = (refl, leb-false _ _ e)
+no-room false finished T e = (cc, absurd (true≢false e))
+
+room : (here : Bool) (finished T : ℕ) → (not here || leb finished T) ≡ true → here ≡ true → finished ≤ T
+room true finished T e h = leb-true _ _ e
+room false finished T e h = absurd (false≢true h)
 
 module _ (Q : ℕ) (n : Lengths) (b : Stores) (sound : Sound Q n b) where
   abbrev p : Plain
@@ -67,39 +107,41 @@ module _ (Q : ℕ) (n : Lengths) (b : Stores) (sound : Sound Q n b) where
   stands-here here e =
       e ∙ rw (pattern-lent Q n b sound, drop-at (p .main .text .l) (p .main .text .r) (n .main .l) (held .left))
 
-  -- In the mode that the record has: where more goes in at a match than is free once the pattern is gone, FULL; else there is room.
-  module _ {mode : Mode} (in-mode : n .mode ≡ mode) {here : Bool} (known : here ≡ matches (p .pattern) (p .main .text)) where
-    finished-as : finished (withReplacement (p .mode) p) ≡ n .main .l + n .main .r - n .pl + placedSize mode n
+  -- The test of room: where the pattern stands, the document with the replacement in its place fits.
+  module _ {here : Bool} (known : here ≡ matches (p .pattern) (p .main .text)) (m : Lengths) (taken : m ≡ replacementTaken (n .mode) n)
+      {ok : Bool} (tested : ok ≡ (not here || leb (m .main .l + m .main .r - m .pl + (m .xl + m .xr)) T)) where
+    finished-as : finished (withReplacement (p .mode) p) ≡ m .main .l + m .main .r - m .pl + (m .xl + m .xr)
     unfolding plainOf
-    finished-as = finished-size (n .mode) p held ∙ ap (λ m. n .main .l + n .main .r - n .pl + placedSize m n) in-mode
+    finished-as = finished-size (n .mode) p held ∙ sym (same-document (n .mode) n m taken)
 
     as-known : matches (withReplacement (p .mode) p .pattern) (withReplacement (p .mode) p .main .text) ≡ here
     as-known = same-match (p .mode) p ∙ sym known
 
-    pub replace-refused : here ≡ true → T - (n .main .l + n .main .r - n .pl) < placedSize mode n
-        → (reply : Reply) → reply ≡ record { code = FULL; steps = 0; bell = false; lengths = n }
-        → replied reply b ≡ editedTo Q n b (bounded T Q (replaced p))
+    -- It fails exactly where FULL is due.
+    pub replace-refused : ok ≡ false → {reply : EditorReply} → reply ≡ unedited FULL n
+        → record { reply = reply; stores = b } ≡ editedTo Q n b (bounded T Q (replaced p))
     unfolding key soundKey pressed
-    replace-refused match over reply e =
-        let full = replace-full T Q p (encoded .sound) (as-known ∙ match) .1 (rw finished-as (omega arith)) in
-        ap (λ r. replied r b) e ∙ ap (editedTo Q n b) (sym full)
+    replace-refused failed e =
+        let (match, over) = no-room here _ _ (sym tested ∙ failed) in
+        let full = replace-full T Q p (encoded .sound) (as-known ∙ match) .1 (rw finished-as over) in
+        (λ i. record { reply = e i; stores = b }) ∙ ap (editedTo Q n b) (sym full)
 
-    module _ (room : here ≡ true → placedSize mode n ≤ T - (n .main .l + n .main .r - n .pl)) where
-      never-full : ¬ (key T Q Replace p ≡ refused FULL)
-      never-full full =
-          ⊎-elim
-          (λ e. let over = replace-full T Q p (encoded .sound) (as-known ∙ e) .0 full in
-          omega (arith, over, finished-as, room e, fitting Q n b sound .document))
-          (λ e. replace-unmatched T Q p (encoded .sound) (as-known ∙ e) full)
-          (decided here)
+    never-full : ok ≡ true → ¬ (key T Q Replace p ≡ refused FULL)
+    never-full passed full =
+        ⊎-elim
+        (λ e. let over = replace-full T Q p (encoded .sound) (as-known ∙ e) .0 full in
+        let fit : m .main .l + m .main .r - m .pl + (m .xl + m .xr) ≤ T = room here _ _ (sym tested ∙ passed) e in
+        omega (arith, over, finished-as, fit))
+        (λ e. replace-unmatched T Q p (encoded .sound) (as-known ∙ e) full)
+        (decided here)
 
-      pub replace-fits : fits T Q (replaced p .state) ≡ true
-      unfolding soundKey pressed
-      replace-fits =
-          ⊎-elim (λ e. e) (λ e. absurd (never-full (full-refused T Q Replace p .1 (refl, e)))) (decided (fits T Q (replaced p .state)))
+    pub replace-fits : ok ≡ true → fits T Q (replaced p .state) ≡ true
+    unfolding soundKey pressed
+    replace-fits passed =
+        ⊎-elim (λ e. e) (λ e. absurd (never-full passed (full-refused T Q Replace p .1 (refl, e)))) (decided (fits T Q (replaced p .state)))
 
     -- What a substitution asks of the plain state handed over.
-    pub replace-substitutes : fits T Q (replaced p .state) ≡ true → {m : Lengths} {c : Stores} → Holds Q (withReplacement (p .mode) p) m c
+    pub replace-substitutes : ok ≡ true → {m : Lengths} {c : Stores} → Holds Q (withReplacement (p .mode) p) m c
         → (here ≡ matches (plainOf Q m c .pattern) (plainOf Q m c .main .text)) × (fits T Q (substituted (plainOf Q m c) .state) ≡ true)
     unfolding replaced
-    replace-substitutes room h = rw (h .plain) (sym as-known, room)
+    replace-substitutes passed h = rw (h .plain) (sym as-known, replace-fits passed)

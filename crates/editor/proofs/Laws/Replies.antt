@@ -8,20 +8,20 @@ use lib.Dec.{leb}
 use lib.ListN.{length, drop, length-append}
 use lib.Seq.{drop-at}
 use borrow.Author.Tests.{le-leb}
-use Rattle.gap.specs.Sequence.{patch, zeros}
-use Rattle.gap.specs.Doc.{empty, content}
-use Rattle.gap.specs.Layout.{gapped, paired}
+use Rattle.gap.specs.Rules.Sequence.{patch, zeros}
+use Rattle.gap.specs.Rules.Doc.{empty, content}
+use Rattle.gap.specs.Rules.Layout.{gapped, paired}
 use Rattle.gap.proofs.Laws.Tests.{cond-true, cond-false}
-use Rattle.gap.proofs.Laws.Layout.{is-gap, is-pair, length-gapped, length-paired}
+use Rattle.gap.proofs.Laws.Layout.{length-gapped, length-paired, is-gap, is-pair}
+use Rattle.editor.specs.Words.{Mode, Main, Quoted, Sizes, Lengths, Report}
+use Rattle.editor.specs.declared.SideReply.{SideReply}
+use Rattle.editor.specs.declared.EditorReply.{EditorReply}
+use Rattle.editor.specs.Rules.Refusals.{FULL}
+use Rattle.editor.specs.Rules.Plain.{Side, emptySide, Plain, quiet, Did, within, refused, done}
+use Rattle.editor.specs.Rules.Keys.{sideOf, withSide, onSide, otherMode, quoted, fits, bounded}
+use Rattle.editor.specs.Rules.Bytes.{Stores, Edited, quarterOf, alone, sizesOf, plainOf, lengthsOf, storesOf, unedited, editedTo}
+use Rattle.editor.specs.Wording.Promise.{OnSide, sideHeld, SideEdited, written, EditsSide, Sound, stores, cleared, sizedIn, replyOf}
 use Rattle.gap.proofs.Laws.Holdable.{content-fits}
-use Rattle.editor.specs.Words.{Mode, Main, Quoted, Sizes, Lengths}
-use Rattle.editor.specs.declared.Turn.{Turn}
-use Rattle.editor.specs.declared.Reply.{Reply}
-use Rattle.editor.specs.Plain.{Side, emptySide, Plain, Did, within, FULL, refused, done}
-use Rattle.editor.specs.Keys.{sideOf, withSide, onSide, quoted, fits, bounded}
-use Rattle.editor.specs.Bytes.{Stores, Edited, quarterOf, alone, sizesOf, plainOf, lengthsOf, storesOf, editedTo}
-use Rattle.editor.specs.Promise.{OnSide, sideHeld, Turned, turned, written, Turns}
-use Rattle.editor.specs.Promise.{Sound, stores, replied, quoteTaken, sizedIn, replyOf}
 use Rattle.editor.proofs.Laws.Sound.{SoundPlain}
 use Rattle.editor.proofs.Laws.Quarters.{length-quarter}
 use Rattle.editor.proofs.Laws.Quotation.{two-quarters, quotation-cleared}
@@ -52,7 +52,7 @@ placed-same Q Main b = refl
 placed-same Q Quoted b = ap (stores (b .text) (b .recall)) (two-quarters Q (b .side))
 
 -- Stores that differ in the quotation's two quarters only.
-pub quotation-placed : (Q : ℕ) (text recall side then : List ℕ) → drop (2 * Q) then ≡ drop (2 * Q) side
+quotation-placed : (Q : ℕ) (text recall side then : List ℕ) → drop (2 * Q) then ≡ drop (2 * Q) side
     → stores text recall then ≡ placed Q Quoted (quarterOf Q 0 then) (quarterOf Q 1 then) (stores text recall side)
 quotation-placed Q text recall side then e =
     sym (placed-same Q Quoted (stores text recall then))
@@ -128,10 +128,8 @@ module _ (Q : ℕ) (n : Lengths) (b : Stores) (sound : Sound Q n b) where
   length-recall m = on-side m .same ∙ length-text m
 
   -- What a key on a side answers, as an answer on all three stores.
-  answer : Mode → Turned → Edited
-  answer m t =
-      replied (replyOf m n (record { full = t .full; steps = t .steps; bell = t .bell; sizes = t .sizes }))
-      (placed Q m (t .text) (t .recall) b)
+  answer : Mode → SideEdited → Edited
+  answer m t = record { reply = replyOf m n (t .reply); stores = placed Q m (t .text) (t .recall) b }
 
   module _ (m : Mode) (did : Did Side) where
     -- The side that it leaves, and all of it.
@@ -154,23 +152,15 @@ module _ (Q : ℕ) (n : Lengths) (b : Stores) (sound : Sound Q n b) where
         → answer m (written (sizesAt m n) (textAt Q m b) (recallAt Q m b) did) ≡ editedTo Q n b (cond room (done all) (refused FULL))
     unfolding written answer
     answered true e = ap (answer m) (cond-true _ _ e) ∙ λ i. record {
-      code = 0;
-      steps = did .steps;
-      bell = did .bell;
-      lengths = lengths-with i;
+      reply = record { code = 0; report = did .report; lengths = lengths-with i };
       stores = stores-with i;
     }
-    answered false e = ap (answer m) (cond-false _ _ e) ∙ λ i. record {
-      code = FULL;
-      steps = 0;
-      bell = false;
-      lengths = n;
-      stores = placed-same Q m b i;
-    }
+    answered false e = ap (answer m) (cond-false _ _ e) ∙ λ i. record { reply = unedited FULL n; stores = placed-same Q m b i }
 
     -- A key on a side, done or refused as full, is that key on all three stores: the side that it leaves alone fits anyway.
-    pub landed : (t : Turn) (text recall : List ℕ) → turned t text recall ≡ written (sizesAt m n) (textAt Q m b) (recallAt Q m b) did
-        → replied (replyOf m n t) (placed Q m text recall b) ≡ editedTo Q n b (bounded T Q (within (λ s. withSide m s p) did))
+    pub landed : (t : SideReply) (text recall : List ℕ)
+        → record { reply = t; text = text; recall = recall } ≡ written (sizesAt m n) (textAt Q m b) (recallAt Q m b) did
+        → record { reply = replyOf m n t; stores = placed Q m text recall b } ≡ editedTo Q n b (bounded T Q (within (λ s. withSide m s p) did))
     unfolding answer bounded
     landed t text recall e =
         ap (answer m) e
@@ -182,27 +172,38 @@ module _ (Q : ℕ) (n : Lengths) (b : Stores) (sound : Sound Q n b) where
   side-held Quoted = refl
 
   -- So a key on the mode's side does what the plain editor says.
-  pub on-mode : (m : Mode) (edit : Side → Did Side) (r : Reply) (t : Turn) (text recall : List ℕ)
-      → n .mode ≡ m → r ≡ replyOf (n .mode) n t → Turns t (sizesAt m n) edit (textAt Q m b) (recallAt Q m b) text recall
-      → replied r (placed Q m text recall b) ≡ editedTo Q n b (bounded T Q (onSide edit p))
+  pub on-mode : (m : Mode) (edit : Side → Did Side) (r : EditorReply) (t : SideReply) (text recall : List ℕ)
+      → n .mode ≡ m → r ≡ replyOf (n .mode) n t → EditsSide t (sizesAt m n) edit (textAt Q m b) (recallAt Q m b) text recall
+      → record { reply = r; stores = placed Q m text recall b } ≡ editedTo Q n b (bounded T Q (onSide edit p))
   unfolding plainOf onSide
   on-mode m edit r t text recall mode reply turns =
       let outcome : Mode → Side → Edited = λ m s. editedTo Q n b (bounded T Q (within (λ s. withSide m s p) (edit s))) in
-      ap (λ r. replied r (placed Q m text recall b)) (reply ∙ ap (λ m. replyOf m n t) mode)
+      (λ i. record { reply = (reply ∙ ap (λ m. replyOf m n t) mode) i; stores = placed Q m text recall b })
       ∙ landed m (edit (sideHeld (sizesAt m n) (textAt Q m b) (recallAt Q m b))) t text recall turns
       ∙ ap (outcome m) (side-held m)
       ∙ ap (λ m. outcome m (sideOf m p)) (sym mode)
 
+  -- The same on the quotation's side, whose two quarters lie in the side store.
+  pub on-quotation : (edit : Side → Did Side) (r : EditorReply) (t : SideReply) (side : List ℕ)
+      → n .mode ≡ Quoted → r ≡ replyOf (n .mode) n t
+      → EditsSide t (n .quoted) edit (quarterOf Q 0 (b .side)) (quarterOf Q 1 (b .side)) (quarterOf Q 0 side) (quarterOf Q 1 side)
+      → drop (2 * Q) side ≡ drop (2 * Q) (b .side)
+      → record { reply = r; stores = stores (b .text) (b .recall) side } ≡ editedTo Q n b (bounded T Q (onSide edit p))
+  on-quotation edit r t side mode reply turns rest =
+      (λ i. record { reply = r; stores = quotation-placed Q (b .text) (b .recall) (b .side) side rest i })
+      ∙ on-mode Quoted edit r t (quarterOf Q 0 side) (quarterOf Q 1 side) mode reply turns
+
   -- QUOTE: both of the quotation's quarters become free.
-  pub quote-replied : (lengths : Lengths) (side : List ℕ) → lengths ≡ quoteTaken n → side ≡ patch 0 (zeros (2 * Q)) (b .side)
-      → replied (record { code = 0; steps = 0; bell = false; lengths = lengths }) (stores (b .text) (b .recall) side)
-      ≡ editedTo Q n b (bounded T Q (quoted p))
+  pub quote-done : {r : EditorReply} {report : Report} {m : Lengths} (side : List ℕ) → r ≡ record { code = 0; report = report; lengths = m }
+      → report ≡ quiet → m ≡ cleared (otherMode (n .mode)) n → side ≡ patch 0 (zeros (2 * Q)) (b .side)
+      → record { reply = r; stores = stores (b .text) (b .recall) side } ≡ editedTo Q n b (bounded T Q (quoted p))
   unfolding quoted bounded lengthsOf storesOf
-  quote-replied lengths side taken cleared =
+  quote-done side replied said taken freed =
       let room : fits T Q (quoted p .state) ≡ true = sound-fits T Q (quoted p .state) (quoted-sound T Q p (encoded .sound)) in
-      let freed : stores (b .text) (b .recall) side ≡ storesOf T Q (quoted p .state) =
-      ap (stores (b .text) (b .recall)) (cleared ∙ quotation-cleared Q (b .side))
+      let lengths = taken ∙ ap (λ n. cleared (otherMode (n .mode)) n) (sym (encoded .lengths)) in
+      let then : stores (b .text) (b .recall) side ≡ storesOf T Q (quoted p .state) =
+      ap (stores (b .text) (b .recall)) (freed ∙ quotation-cleared Q (b .side))
       ∙ ap (placed Q Quoted (gapped Q empty) (paired Q empty)) (sym (encoded .stores))
       ∙ placed-with T Q emptySide p (encoded .sound) Quoted in
-      (λ i. record { code = 0; steps = 0; bell = false; lengths = (taken ∙ ap quoteTaken (sym (encoded .lengths))) i; stores = freed i })
+      (λ i. record { reply = (replied ∙ λ i. record { code = 0; report = said i; lengths = lengths i }) i; stores = then i })
       ∙ ap (editedTo Q n b) (sym (cond-true (done (quoted p)) (refused FULL) room))

@@ -5,10 +5,10 @@ use Prim.Native.Nat.{ℕ, _*_, _≤_}
 use lib.Dec.{leb, eqb}
 use lib.ListN.{length}
 use borrow.Author.Tests.{leb-true, le-leb, eqb-true, eq-eqb}
-use Rattle.gap.specs.Layout.{soundGap, soundPair}
+use Rattle.gap.specs.Rules.Layout.{soundGap, soundPair}
 use Rattle.gap.proofs.Laws.Tests.{and-left, and-right, and-both}
 use Rattle.editor.specs.Words.{Lengths}
-use Rattle.editor.specs.Bytes.{Stores, sized, quarterOf, oneHalf, unquoted, editorOk}
+use Rattle.editor.specs.Rules.Bytes.{Stores, sized, quarterOf, oneHalf, unquoted, editorOk}
 
 -- What the test of sizes asks.
 pub record Measured (Q : ℕ) (b : Stores) : Type 0 where

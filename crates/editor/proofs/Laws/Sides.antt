@@ -5,16 +5,16 @@ use mathlib.Core.List.{[], _∷_}
 use Prim.Native.Nat.{ℕ, _≤_}
 use lib.Dec.{eqb}
 use lib.ListN.{length}
-use Rattle.gap.specs.Sequence.{every}
-use Rattle.gap.specs.Doc.{Doc, content, delete, times, passed, removed}
-use Rattle.gap.specs.Layout.{allowed}
+use Rattle.gap.specs.Rules.Sequence.{every}
+use Rattle.gap.specs.Rules.Doc.{Doc, content, delete, times, passed, removed}
+use Rattle.gap.specs.Rules.Layout.{allowed}
 use Rattle.gap.proofs.Laws.Tests.{and-both, or-right}
 use Rattle.gap.proofs.Laws.Layout.{Holdable}
 use Rattle.gap.proofs.Laws.Holdable.{empty-holdable, splice-holdable, deletions-holdable, moves-holdable, removed-holdable}
 use Rattle.editor.specs.Words.{Direction, Left, Right, Search, Reached, Nowhere, Action, Move, Delete}
-use Rattle.editor.specs.Plain.{Side}
-use Rattle.editor.specs.Bytes.{sizesOf, oneHalf}
-use Rattle.editor.specs.Keys.{inserted, carried, recalled}
+use Rattle.editor.specs.Rules.Plain.{Side}
+use Rattle.editor.specs.Rules.Bytes.{sizesOf, oneHalf}
+use Rattle.editor.specs.Rules.Keys.{inserted, carried, recalled}
 
 -- The text and its recall text fit their stores with allowed bytes, and one half of the recall text is empty.
 pub record SoundSide (size : ℕ) (s : Side) : Type 0 where

@@ -4,8 +4,8 @@ use mathlib.Core.Path.{_≡_}
 use mathlib.Core.Bool.{true}
 use Prim.Native.Nat.{ℕ}
 use Rattle.gap.proofs.Laws.Layout.{Holdable}
-use Rattle.editor.specs.Plain.{Plain}
-use Rattle.editor.specs.Bytes.{alone, sizesOf, oneHalf, unquoted}
+use Rattle.editor.specs.Rules.Plain.{Plain}
+use Rattle.editor.specs.Rules.Bytes.{alone, sizesOf, oneHalf, unquoted}
 
 pub record SoundPlain (T Q : ℕ) (p : Plain) : Type 0 where
   pub text : Holdable T (p .main .text)

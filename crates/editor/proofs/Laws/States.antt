@@ -7,20 +7,20 @@ use native.Mathlib.Omega.{arith}
 use borrow.Author.Tests.{leb-true, le-leb}
 use lib.Dec.{leb}
 use lib.ListN.{length}
-use Rattle.gap.specs.Doc.{Doc, content}
-use Rattle.gap.specs.Nearest.{distance}
-use Rattle.gap.specs.Layout.{allowed}
+use Rattle.gap.specs.Rules.Doc.{Doc, content}
+use Rattle.gap.specs.Rules.Nearest.{distance}
+use Rattle.gap.specs.Rules.Layout.{allowed}
 use Rattle.gap.proofs.Laws.Tests.{and-left, and-right, and-both}
 use Rattle.gap.proofs.Laws.Sequence.{every-left}
 use Rattle.gap.proofs.Laws.Layout.{Holdable}
 use Rattle.gap.proofs.Laws.Compared.{begins-fits}
 use Rattle.gap.proofs.Laws.Holdable.{empty-holdable, content-fits, splice-holdable, left-holdable, right-holdable}
 use Rattle.editor.specs.Words.{Direction, Action, Move, Place, Mode, Main, Quoted}
-use Rattle.editor.specs.Places.{isAt}
-use Rattle.editor.specs.Plain.{Side, emptySide, Plain, Did, quiet, rang}
-use Rattle.editor.specs.Bytes.{alone, sizesOf, unquoted}
-use Rattle.editor.specs.Keys.{function, sideOf, withSide, onSide, otherMode, quoted, withPattern, matches, searched, found}
-use Rattle.editor.specs.Keys.{withReplacement, exchanged, substituted, fits}
+use Rattle.editor.specs.Rules.Places.{isAt}
+use Rattle.editor.specs.Rules.Plain.{Side, emptySide, Plain, quiet, rang, Did, reporting}
+use Rattle.editor.specs.Rules.Bytes.{alone, sizesOf, unquoted}
+use Rattle.editor.specs.Rules.Keys.{function, sideOf, withSide, onSide, otherMode, quoted, withPattern, matches, searched, found}
+use Rattle.editor.specs.Rules.Keys.{withReplacement, exchanged, substituted, fits}
 use Rattle.editor.proofs.Laws.Sound.{SoundPlain}
 use Rattle.editor.proofs.Laws.Sides.{SoundSide, carried-sound}
 
@@ -182,7 +182,7 @@ unfolding substituted
 substituted-sound T Q p sound room = go (matches (p .pattern) (p .main .text)) refl room
   where
     answer : Bool → Did Plain
-    answer match = cond match (quiet (withSide Main (exchanged p) p)) (rang p)
+    answer match = cond match (reporting quiet (withSide Main (exchanged p) p)) (reporting rang p)
 
     go : (match : Bool) → matches (p .pattern) (p .main .text) ≡ match → fits T Q (answer match .state) ≡ true
         → SoundPlain T Q (answer match .state)

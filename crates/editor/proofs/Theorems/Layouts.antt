@@ -6,12 +6,12 @@ use mathlib.Core.List.{List, _++_}
 use Prim.Native.Nat.{ℕ, _≤_}
 use native.Mathlib.Omega.{arith}
 use lib.ListN.{length}
-use Rattle.gap.specs.Layout.{gapped, paired, ungap, unpair, soundGap, soundPair}
+use Rattle.gap.specs.Rules.Layout.{gapped, paired, ungap, unpair, soundGap, soundPair}
 use Rattle.gap.proofs.Laws.Layout.{Encodes, length-gapped, length-paired, ungap-gapped, unpair-paired}
 use Rattle.gap.proofs.Laws.Layout.{gap-sound, pair-sound, sound-gap, sound-pair}
 use Rattle.editor.specs.Words.{Sizes, Lengths}
-use Rattle.editor.specs.Plain.{Side, Plain}
-use Rattle.editor.specs.Bytes.{Stores, sized, quarterOf, alone, sizesOf, plainOf, lengthsOf, storesOf, editorOk, oneHalf, unquoted}
+use Rattle.editor.specs.Rules.Plain.{Side, Plain}
+use Rattle.editor.specs.Rules.Bytes.{Stores, sized, quarterOf, alone, sizesOf, plainOf, lengthsOf, storesOf, editorOk, oneHalf, unquoted}
 use Rattle.editor.proofs.Laws.Quarters.{quartersOf, length-quarter, joined-quarters, length-side, encoded-quarter}
 use Rattle.editor.proofs.Laws.Session.{measured, measured-sized, passed, passed-ok}
 use Rattle.editor.proofs.Laws.Sound.{SoundPlain}

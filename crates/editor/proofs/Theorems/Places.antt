@@ -3,7 +3,7 @@ use mathlib.Core.Path.{_≡_, refl}
 use mathlib.Core.Bool.{Bool, true, false}
 use mathlib.Core.List.{List, [], _∷_, map}
 use Prim.Native.Nat.{ℕ}
-use Rattle.editor.specs.Places.{lineBeginning, word}
+use Rattle.editor.specs.Rules.Places.{lineBeginning, word}
 
 -- One text of each kind; 65 is a letter.
 abbrev pub kinds : List (List ℕ)

@@ -5,15 +5,15 @@ use Prim.Native.Nat.{ℕ}
 use native.Mathlib.Nat.{sub-zero}
 use lib.ListN.{take-append-drop}
 use lib.Seq.{take-length}
-use Rattle.gap.specs.Doc.{Doc, empty, content, delete, times, passed, splice, removed}
-use Rattle.gap.specs.Nearest.{distance}
+use Rattle.gap.specs.Rules.Doc.{Doc, empty, content, delete, times, passed, splice, removed}
+use Rattle.gap.specs.Rules.Nearest.{distance}
 use Rattle.gap.proofs.Laws.Doc.{same-texts, deletions-left, deletions-right, insertions, content-moves}
 use Rattle.editor.specs.Words.{Direction, Left, Right, Search, Reached, Nowhere, Move, Delete, Place, Mode, Main, Quoted}
 use Rattle.editor.specs.Words.{Function, Recall, Find}
-use Rattle.editor.specs.Places.{isAt}
-use Rattle.editor.specs.Plain.{Side, Plain, Did, quiet, done}
-use Rattle.editor.specs.Keys.{soundKey, carried, function, recalled, sideOf, withSide, onSide}
-use Rattle.editor.specs.Keys.{withPattern, matches, searched, found, pressed, fits, key}
+use Rattle.editor.specs.Rules.Places.{isAt}
+use Rattle.editor.specs.Rules.Plain.{Side, Plain, quiet, Did, reporting, within, done}
+use Rattle.editor.specs.Rules.Keys.{soundKey, carried, function, recalled, sideOf, withSide, onSide}
+use Rattle.editor.specs.Rules.Keys.{withPattern, matches, searched, found, pressed, fits, key}
 use Rattle.editor.proofs.Laws.Sound.{SoundPlain}
 use Rattle.editor.proofs.Laws.Outcomes.{accepted}
 use Rattle.editor.proofs.Laws.States.{side-with, on-side-twice, sound-fits}
@@ -34,14 +34,14 @@ put-back Right n d =
 -- RECALL straight after a deletion: the text is as it was, cursor included, and the recall text is what the deletion made it.
 -- That holds with the bell too, for then nothing was removed.
 recall-carried : (way : Direction) (search : Search) (s : Side)
-    → recalled (carried Delete way search s .state) ≡ quiet (record { text = s .text; recall = carried Delete way search s .state .recall })
+    → recalled (carried Delete way search s .state) ≡ reporting quiet (record { text = s .text; recall = carried Delete way search s .state .recall })
 unfolding recalled carried
-recall-carried way (Reached n) s = λ i. quiet (record { text = put-back way n (s .text) i; recall = removed way n (s .text) })
-recall-carried way Nowhere s = λ i. quiet (record { text = put-nothing (s .text) i; recall = empty })
+recall-carried way (Reached n) s = λ i. reporting quiet (record { text = put-back way n (s .text) i; recall = removed way n (s .text) })
+recall-carried way Nowhere s = λ i. reporting quiet (record { text = put-nothing (s .text) i; recall = empty })
 
 pub recall-after-deletion : (way : Direction) (place : Place) (s : Side)
     → recalled (function Delete way place s .state)
-    ≡ quiet (record { text = s .text; recall = function Delete way place s .state .recall })
+    ≡ reporting quiet (record { text = s .text; recall = function Delete way place s .state .recall })
 unfolding function
 recall-after-deletion way place s = recall-carried way (distance way (isAt place way) (s .text)) s
 
@@ -59,19 +59,19 @@ fits-with-recall T Q recall p = go (p .mode)
 
 recalled-state : (way : Direction) (place : Place) (p : Plain)
     → let after = onSide (function Delete way place) p .state in
-    onSide recalled after ≡ quiet (withRecall (sideOf (p .mode) after .recall) p)
+    onSide recalled after ≡ reporting quiet (withRecall (sideOf (p .mode) after .recall) p)
 unfolding onSide
 recalled-state way place p =
     let s = sideOf (p .mode) p in
     rw (side-with (p .mode) (function Delete way place s .state) p)
     (on-side-twice (function Delete way place) recalled p
-    ∙ ap (λ d. record { state = withSide (p .mode) (d .state) p; steps = d .steps; bell = d .bell }) (recall-after-deletion way place s))
+    ∙ ap (λ d. within (λ s. withSide (p .mode) s p) d) (recall-after-deletion way place s))
 
 -- The same at the level of keys, in a session: RECALL is not refused, and it leads back to the text and cursor before the
 -- deletion. Only the recall text is another: that of the deletion.
 pub recall-restores : (T Q : ℕ) (way : Direction) (place : Place) (p : Plain) (did : Did Plain) → SoundPlain T Q p
     → key T Q (Function Delete way place) p ≡ done did
-    → key T Q Recall (did .state) ≡ done (quiet (withRecall (sideOf (p .mode) (did .state) .recall) p))
+    → key T Q Recall (did .state) ≡ done (reporting quiet (withRecall (sideOf (p .mode) (did .state) .recall) p))
 unfolding pressed soundKey
 recall-restores T Q way place p did sound e =
     let (ok, room, same) = accepted T Q (Function Delete way place) p did .0 e in
@@ -79,7 +79,7 @@ recall-restores T Q way place p did sound e =
     let recall = sideOf (p .mode) after .recall in
     let back = recalled-state way place p in
     rw (← same)
-    (accepted T Q Recall after (quiet (withRecall recall p)) .1
+    (accepted T Q Recall after (reporting quiet (withRecall recall p)) .1
     (refl, ap (λ d. fits T Q (d .state)) back ∙ fits-with-recall T Q recall p ∙ sound-fits T Q p sound, back))
 
 -- A move of one side keeps its content, wherever its search ends.

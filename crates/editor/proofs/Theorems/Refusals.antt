@@ -9,15 +9,16 @@ use native.Mathlib.Omega.{arith}
 use borrow.Author.Tests.{leb-false, lt-leb}
 use lib.Dec.{leb}
 use lib.ListN.{length, length-append}
-use Rattle.gap.specs.Doc.{Doc, content, splice}
-use Rattle.gap.specs.Layout.{allowed}
+use Rattle.gap.specs.Rules.Doc.{Doc, content, splice}
+use Rattle.gap.specs.Rules.Layout.{allowed}
 use Rattle.gap.proofs.Laws.Tests.{clash}
 use Rattle.editor.specs.Words.{Direction, Left, Right, Action, Move, Delete, Mode, Main, Quoted}
 use Rattle.editor.specs.Words.{Place, Character, Word, LineBeginning, LineEnding, Document}
 use Rattle.editor.specs.Words.{Key, Insert, Function, Recall, Quote, Find, Replace}
-use Rattle.editor.specs.Plain.{Side, Plain, Did, KEY, FULL, refused, done}
-use Rattle.editor.specs.Keys.{soundFunction, soundKey, inserted, recalled, sideOf, withSide, onSide}
-use Rattle.editor.specs.Keys.{matches, withReplacement, exchanged, substituted, replaced, pressed, fits, key}
+use Rattle.editor.specs.Rules.Refusals.{KEY, FULL}
+use Rattle.editor.specs.Rules.Plain.{Side, Plain, Did, refused, done}
+use Rattle.editor.specs.Rules.Keys.{soundFunction, soundKey, inserted, recalled, sideOf, withSide, onSide}
+use Rattle.editor.specs.Rules.Keys.{matches, withReplacement, exchanged, substituted, replaced, pressed, fits, key}
 use Rattle.editor.proofs.Laws.Sound.{SoundPlain}
 use Rattle.editor.proofs.Laws.Outcomes.{key-refused, full-refused, accepted, refusal-number}
 use Rattle.gap.proofs.Laws.Compared.{begins-fits}

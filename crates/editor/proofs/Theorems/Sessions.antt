@@ -5,11 +5,11 @@ use mathlib.Core.List.{List, [], _∷_}
 use Prim.Native.Nat.{ℕ, _≤_}
 use native.Mathlib.Omega.{arith}
 use lib.ListN.{take, length-take}
-use Rattle.gap.specs.Sequence.{every}
-use Rattle.gap.specs.Layout.{allowed}
+use Rattle.gap.specs.Rules.Sequence.{every}
+use Rattle.gap.specs.Rules.Layout.{allowed}
 use Rattle.editor.specs.Words.{Key, Insert, Function, Recall, Quote, Find, Replace}
-use Rattle.editor.specs.Plain.{Plain, opening, Did, Outcome, refused, done}
-use Rattle.editor.specs.Keys.{soundKey, inserted, recalled, withReplacement, replaced, pressed, fits, key, after, keys}
+use Rattle.editor.specs.Rules.Plain.{Plain, opening, Did, Outcome, refused, done}
+use Rattle.editor.specs.Rules.Keys.{soundKey, inserted, recalled, withReplacement, replaced, pressed, fits, key, after, keys}
 use Rattle.editor.proofs.Laws.Sound.{SoundPlain}
 use Rattle.editor.proofs.Laws.Outcomes.{accepted}
 use Rattle.gap.proofs.Laws.Holdable.{empty-holdable, right-holdable}

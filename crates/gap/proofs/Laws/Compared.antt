@@ -9,7 +9,7 @@ use native.Mathlib.Omega.{arith}
 use lib.Dec.{eqb}
 use lib.ListN.{length, take, drop, getD, length-append, length-drop, drop-of-length-le, List·getD-append}
 use lib.Seq.{drop-cons, take-append-le, getD-drop}
-use Rattle.gap.specs.Sequence.{sameBytes, begins, part}
+use Rattle.gap.specs.Rules.Sequence.{sameBytes, begins, part}
 use Rattle.gap.proofs.Laws.Tests.{decided}
 use Rattle.gap.proofs.Laws.Sequence.{same-equal, begins-split, length-part}
 use Rattle.gap.proofs.Laws.Runs.{tailOf, tail-lent}

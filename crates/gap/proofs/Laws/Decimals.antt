@@ -12,8 +12,8 @@ use lib.ListN.{length, drop, getD, length-append, drop-of-length-le}
 use lib.Seq.{drop-cons}
 use borrow.Author.Tests.{ltb-true, ltb-false, leb-true, lt-ltb, le-ltb, le-leb, lt-leb}
 use Rattle.gap.specs.declared.Number.the-variants.{Read, Unreadable}
-use Rattle.gap.specs.Sequence.{every}
-use Rattle.gap.specs.Decimal.{digit, valueAfter, value, wordDigits, isNumber, numberOf, digitsIn, decimal}
+use Rattle.gap.specs.Rules.Sequence.{every}
+use Rattle.gap.specs.Rules.Decimal.{digit, valueAfter, value, wordDigits, isNumber, numberOf, digitsIn, decimal}
 use Rattle.gap.proofs.Laws.Tests.{decided, and-left, and-right, and-both, cond-true, cond-false}
 use Rattle.gap.proofs.Laws.Sequence.{every-both, every-at}
 

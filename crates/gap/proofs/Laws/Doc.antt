@@ -8,8 +8,8 @@ use lib.ListN.{length, take, drop, length-append, length-take, length-drop, take
 use lib.Seq.{take-take, take-length, drop-length, take-nil, drop-nil, take-at, drop-at, drop-append-le, length-take-le}
 use Rattle.gap.specs.declared.Direction.{Direction}
 use Rattle.gap.specs.declared.Direction.the-variants.{Left, Right}
-use Rattle.gap.specs.Sequence.{butLast, lastOf}
-use Rattle.gap.specs.Doc.{Doc, empty, content, room, move, delete, times, splice}
+use Rattle.gap.specs.Rules.Sequence.{butLast, lastOf}
+use Rattle.gap.specs.Rules.Doc.{Doc, empty, content, room, move, delete, times, splice}
 
 -- The text from m on is its part from m up to k and the text from k on.
 drop-split : (m k : ℕ) (s : List ℕ) → m ≤ k → drop m (take k s) ++ drop k s ≡ drop m s

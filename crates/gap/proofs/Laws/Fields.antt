@@ -8,8 +8,8 @@ use lib.ListN.{length, drop}
 use borrow.Author.Tests.{lt-ltb, le-ltb, not-true, not-false}
 use borrow.Rule.Slice.PartMut.{midOf}
 use Rattle.gap.specs.Words.{Number, Unreadable}
-use Rattle.gap.specs.Sequence.{begins}
-use Rattle.gap.specs.Fields.{endAt, fieldOf, headerAt}
+use Rattle.gap.specs.Rules.Sequence.{begins}
+use Rattle.gap.specs.Rules.Fields.{endAt, fieldOf, headerAt}
 use Rattle.gap.proofs.Laws.Tests.{cond-true, cond-false}
 use Rattle.gap.proofs.Laws.Runs.{tailOf, tail-lent}
 use Rattle.gap.proofs.Laws.Compared.{begins-fits}

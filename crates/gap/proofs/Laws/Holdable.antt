@@ -6,9 +6,9 @@ use Prim.Native.Nat.{ℕ, _+_, _-_, _≤_}
 use native.Mathlib.Omega.{arith}
 use lib.ListN.{length, take, drop, length-append, length-take, length-drop}
 use Rattle.gap.specs.Words.{Direction, Left, Right}
-use Rattle.gap.specs.Sequence.{every}
-use Rattle.gap.specs.Doc.{Doc, empty, content, move, delete, times, passed, splice, removed}
-use Rattle.gap.specs.Layout.{allowed}
+use Rattle.gap.specs.Rules.Sequence.{every}
+use Rattle.gap.specs.Rules.Doc.{Doc, empty, content, move, delete, times, passed, splice, removed}
+use Rattle.gap.specs.Rules.Layout.{allowed}
 use Rattle.gap.proofs.Laws.Sequence.{every-both, every-left, every-right, every-take, every-drop}
 use Rattle.gap.proofs.Laws.Doc.{deletions-left, deletions-right, content-moves}
 use Rattle.gap.proofs.Laws.Layout.{Holdable}

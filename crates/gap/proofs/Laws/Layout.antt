@@ -8,9 +8,9 @@ use lib.Dec.{leb}
 use lib.ListN.{length, take, drop, length-append, length-drop, take-append-drop}
 use lib.Seq.{length-take-le, take-add, take-append-seam, take-at, drop-at, drop-append-le, drop-append-seam, drop-append-add, drop-drop}
 use borrow.Author.Tests.{leb-true, le-leb}
-use Rattle.gap.specs.Sequence.{every, part, zeros}
-use Rattle.gap.specs.Doc.{Doc, content}
-use Rattle.gap.specs.Layout.{allowed, free, spare, gapped, paired, ungap, unpair, soundGap, soundPair, IsGap, IsPair}
+use Rattle.gap.specs.Rules.Sequence.{every, part, zeros}
+use Rattle.gap.specs.Rules.Doc.{Doc, content}
+use Rattle.gap.specs.Rules.Layout.{allowed, free, spare, gapped, paired, ungap, unpair, soundGap, soundPair, IsGap, IsPair}
 use Rattle.gap.proofs.Laws.Tests.{and-left, and-right, and-both}
 use Rattle.gap.proofs.Laws.Sequence.{length-part, length-zeros, zeros-free, free-zeros}
 use Rattle.gap.proofs.Laws.Runs.{tailOf, tail-lent}

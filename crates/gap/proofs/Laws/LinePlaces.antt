@@ -10,10 +10,10 @@ use lib.ListN.{length, take, drop, getD, length-take, length-drop, drop-of-lengt
 use lib.Seq.{drop-cons}
 use borrow.Author.Tests.{ltb-true, ltb-false, lt-ltb, le-ltb, eq-eqb, ne-eqb}
 use borrow.Rule.Slice.PartMut.{midOf}
-use Rattle.gap.specs.Lines.{newline, newlines}
+use Rattle.gap.specs.Rules.Lines.{newline, newlines}
 use Rattle.gap.proofs.Laws.Tests.{cond-true, cond-false}
 use Rattle.gap.proofs.Laws.Lines.{front-newlines}
-use Rattle.gap.specs.Fields.{lineOf, lineAt, endAt, nextAt, lineNumber}
+use Rattle.gap.specs.Rules.Fields.{lineOf, lineAt, endAt, nextAt, lineNumber}
 
 -- ---- One line
 

@@ -10,8 +10,8 @@ use lib.ListN.{length, take, drop, getD, take-append-drop, drop-of-length-le, le
 use lib.Seq.{drop-drop, drop-cons, take-add, take-suc}
 use borrow.Author.Tests.{ne-eqb, not-true, not-false}
 use borrow.Rule.Slice.PartAt.{part-to-end}
-use Rattle.gap.specs.Sequence.{every, part}
-use Rattle.gap.specs.Lines.{newline, newlines, sinceAfter, Unbroken}
+use Rattle.gap.specs.Rules.Sequence.{every, part}
+use Rattle.gap.specs.Rules.Lines.{newline, newlines, sinceAfter, Unbroken}
 use Rattle.gap.proofs.Laws.Tests.{and-left, and-right, cond-false}
 use Rattle.gap.proofs.Laws.Sequence.{every-both}
 use Rattle.gap.proofs.Laws.Lines.{newlines-append, newlines-fit, since-append, since-unbroken}

@@ -8,8 +8,8 @@ use native.Mathlib.Omega.{arith}
 use lib.Dec.{eqb}
 use lib.ListN.{length, take, drop, getD, length-append, length-take}
 use lib.Seq.{getD-at, length-take-le}
-use Rattle.gap.specs.Sequence.{every}
-use Rattle.gap.specs.Lines.{newline, newlines, sinceAfter, since, longer, lines}
+use Rattle.gap.specs.Rules.Sequence.{every}
+use Rattle.gap.specs.Rules.Lines.{newline, newlines, sinceAfter, since, longer, lines}
 use Rattle.gap.proofs.Laws.Tests.{and-left, and-right, and-both}
 
 -- How one byte in front changes the number of newlines and the lines, by whether it is a newline.

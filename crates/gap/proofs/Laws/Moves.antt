@@ -8,9 +8,9 @@ use lib.ListN.{length, take, drop, length-drop, take-append-drop}
 use lib.Seq.{length-take-le}
 use Rattle.gap.specs.declared.Direction.{Direction}
 use Rattle.gap.specs.declared.Direction.the-variants.{Left, Right}
-use Rattle.gap.specs.Sequence.{zeros}
-use Rattle.gap.specs.Doc.{Doc, room, move, times}
-use Rattle.gap.specs.Layout.{gapped, ungap, IsGap}
+use Rattle.gap.specs.Rules.Sequence.{zeros}
+use Rattle.gap.specs.Rules.Doc.{Doc, room, move, times}
+use Rattle.gap.specs.Rules.Layout.{gapped, ungap, IsGap}
 use Rattle.gap.proofs.Laws.Doc.{moves-left, moves-right}
 use Rattle.gap.proofs.Laws.Layout.{length-gapped, ungap-gapped, length-left, length-right}
 use Rattle.gap.proofs.Laws.Shifts.{carried}

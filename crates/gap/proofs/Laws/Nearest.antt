@@ -6,7 +6,7 @@ use Prim.Native.Nat.{ℕ, zero, suc, _+_, _≤_, _<_}
 use native.Mathlib.Nat.{le-refl, eq-or-lt-of-le}
 use native.Mathlib.Omega.{arith}
 use Rattle.gap.specs.declared.Search.the-variants.{Reached, Nowhere}
-use Rattle.gap.specs.Nearest.{nearest}
+use Rattle.gap.specs.Rules.Nearest.{nearest}
 use Rattle.gap.proofs.Laws.Tests.{decided, cond-true, cond-false}
 
 -- d is the least of the n numbers from k on that passes the test.

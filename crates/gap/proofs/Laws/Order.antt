@@ -7,22 +7,8 @@ use mathlib.Core.List.{List, [], _∷_, _++_}
 use Prim.Native.Nat.{ℕ}
 use lib.Dec.{eqb}
 use borrow.Author.Tests.{eqb-false, not-true}
+use Rattle.gap.specs.Rules.Checks.{Check, check, firstFailed, Passing}
 use Rattle.gap.proofs.Laws.Tests.{and-left, and-right}
-
--- A check: the number that is given where it fails, and whether it passes.
-pub data Check : Type 0 where
-  check : ℕ → Bool → Check
-
--- 01, refusals: the first that applies is given; 0 where every check passes.
-unfoldable pub firstFailed : List Check → ℕ
-firstFailed [] = 0
-firstFailed (check n true ∷ cs) = firstFailed cs
-firstFailed (check n false ∷ cs) = n
-
--- Every check of the list passes.
-abbrev pub Passing : List Check → Type 0
-Passing [] = Unit {0}
-Passing (check n t ∷ cs) = (t ≡ true) × Passing cs
 
 -- The number is neither 0 nor any of the list's.
 abbrev pub avoids : ℕ → List Check → Bool

@@ -5,7 +5,7 @@ use Prim.Native.Nat.{ℕ, _+_, _≤_, _<_}
 use native.Mathlib.Omega.{arith}
 use lib.ListN.{length, take, drop, length-append, length-drop, take-append-drop}
 use lib.Seq.{length-take-le, take-add, take-at, take-append-le, drop-at, drop-drop, drop-append-le}
-use Rattle.gap.specs.Sequence.{part, patch}
+use Rattle.gap.specs.Rules.Sequence.{part, patch}
 use Rattle.gap.proofs.Laws.Runs.{length-patch, patch-none}
 
 -- Two parts side by side are one part.

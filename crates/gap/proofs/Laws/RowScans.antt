@@ -6,8 +6,8 @@ use native.Mathlib.Omega.{arith}
 use lib.ListN.{length}
 use Rattle.gap.specs.declared.Search.{Search}
 use Rattle.gap.specs.declared.Search.the-variants.{Reached, Nowhere}
-use Rattle.gap.specs.Sequence.{every, counted}
-use Rattle.gap.specs.Nearest.{nearest}
+use Rattle.gap.specs.Rules.Sequence.{every, counted}
+use Rattle.gap.specs.Rules.Nearest.{nearest}
 use Rattle.gap.proofs.Laws.Sequence.{every-at, length-counted, at-counted}
 use Rattle.gap.proofs.Laws.Nearest.{none-nowhere}
 use Rattle.gap.proofs.Laws.Scans.{Tested, tested-more, tested-all, Scan}

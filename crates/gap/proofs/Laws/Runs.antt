@@ -9,7 +9,7 @@ use lib.ListN.{getD-replicate, replicate-append-replicate}
 use lib.Seq.{length-take-le, take-all, take-at, take-suc, take-length, take-append-seam}
 use lib.Seq.{drop-at, drop-cons, drop-length, drop-drop, append-snoc, set-at, set-split}
 use borrow.Rule.Slice.PartMut.{midOf, putMid}
-use Rattle.gap.specs.Sequence.{part, patch, zeros}
+use Rattle.gap.specs.Rules.Sequence.{part, patch, zeros}
 use Rattle.gap.proofs.Laws.Sequence.{length-part, length-zeros}
 
 -- The first i bytes of a run were copied to the front of a store that was `old` and now is `s`.
@@ -89,7 +89,7 @@ patch-middle x y z run a e f = rw (take-at x (y ++ z) a e, drop-at x (y ++ z) a 
 
 -- A part of a store is lent and comes back: `midOf a k s` are the k bytes from a on, and `putMid a k s t` is the store with t in their
 -- place, as the checker has them. If as many come back, that is a patch.
-part-back : (a k : ℕ) (s t : List ℕ) → length t ≡ k → putMid a k s t ≡ patch a t s
+pub part-back : (a k : ℕ) (s t : List ℕ) → length t ≡ k → putMid a k s t ≡ patch a t s
 unfolding patch
 part-back a k s t e = ap (λ n. take a s ++ (t ++ drop n (drop a s))) (sym e)
 

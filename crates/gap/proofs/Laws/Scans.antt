@@ -8,8 +8,8 @@ use native.Mathlib.Omega.{arith}
 use lib.ListN.{length, drop, getD, drop-of-length-le}
 use lib.Seq.{drop-cons}
 use Rattle.gap.specs.declared.Search.the-variants.{Reached, Nowhere}
-use Rattle.gap.specs.Sequence.{every}
-use Rattle.gap.specs.Nearest.{nearest}
+use Rattle.gap.specs.Rules.Sequence.{every}
+use Rattle.gap.specs.Rules.Nearest.{nearest}
 use Rattle.gap.proofs.Laws.Tests.{cond-true, cond-false}
 use Rattle.gap.proofs.Laws.Sequence.{every-at}
 use Rattle.gap.proofs.Laws.Nearest.{none-nowhere}

@@ -9,8 +9,8 @@ use lib.Dec.{eqb}
 use lib.ListN.{length, take, drop, getD, take-append-drop, length-take, length-drop, length-replicate}
 use lib.Seq.{take-nil}
 use borrow.Author.Tests.{eqb-true, eq-eqb}
-use Rattle.gap.specs.Sequence.{every, sameBytes, begins, part, zeros, counted}
-use Rattle.gap.specs.Layout.{free}
+use Rattle.gap.specs.Rules.Sequence.{every, sameBytes, begins, part, zeros, counted}
+use Rattle.gap.specs.Rules.Layout.{free}
 use Rattle.gap.proofs.Laws.Tests.{and-left, and-right, and-both}
 
 module _ (test : ℕ → Bool) where

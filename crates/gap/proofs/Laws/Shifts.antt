@@ -7,7 +7,7 @@ use native.Mathlib.Omega.{arith}
 use lib.Dec.{ltb}
 use lib.ListN.{length}
 use borrow.Author.Tests.{ltb-true, ltb-false}
-use Rattle.gap.specs.Sequence.{part, patch, zeros}
+use Rattle.gap.specs.Rules.Sequence.{part, patch, zeros}
 use Rattle.gap.proofs.Laws.Tests.{decided}
 use Rattle.gap.proofs.Laws.Sequence.{length-part, length-zeros}
 use Rattle.gap.proofs.Laws.Runs.{length-patch, patch-none, zeros-both}

@@ -8,8 +8,8 @@ use lib.ListN.{length, take, drop}
 use lib.Seq.{take-add, drop-length}
 use borrow.Author.Tests.{le-leb, lt-leb}
 use borrow.Rule.Slice.PartAt.{part-to-end}
-use Rattle.gap.specs.Sequence.{every, part}
-use Rattle.gap.specs.Layout.{allowed, free, ungap, unpair, soundGap, soundPair}
+use Rattle.gap.specs.Rules.Sequence.{every, part}
+use Rattle.gap.specs.Rules.Layout.{allowed, free, ungap, unpair, soundGap, soundPair}
 
 every-append : (test : ℕ → Bool) (s t : List ℕ) → every test (s ++ t) ≡ (every test s && every test t)
 unfolding every

@@ -9,9 +9,9 @@ use lib.Seq.{length-take-le, take-length}
 use borrow.Rule.Slice.PartMut.{midOf}
 use Rattle.gap.specs.declared.Direction.{Direction}
 use Rattle.gap.specs.declared.Direction.the-variants.{Left, Right}
-use Rattle.gap.specs.Sequence.{part, patch, zeros}
-use Rattle.gap.specs.Doc.{Doc, room, delete, times, passed, removed, splice}
-use Rattle.gap.specs.Layout.{gapped, paired, ungap, unpair, IsGap}
+use Rattle.gap.specs.Rules.Sequence.{part, patch, zeros}
+use Rattle.gap.specs.Rules.Doc.{Doc, room, delete, times, passed, removed, splice}
+use Rattle.gap.specs.Rules.Layout.{gapped, paired, ungap, unpair, IsGap}
 use Rattle.gap.proofs.Laws.Sequence.{length-part, length-zeros}
 use Rattle.gap.proofs.Laws.Doc.{same-texts, deletions-left, deletions-right, insertions}
 use Rattle.gap.proofs.Laws.Layout.{length-left, length-right}

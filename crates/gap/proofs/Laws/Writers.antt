@@ -5,8 +5,8 @@ use Prim.Native.Nat.{ℕ, _+_, _≤_, _<_}
 use native.Mathlib.Omega.{arith}
 use lib.ListN.{length, take, drop, set, length-append}
 use lib.Seq.{length-take-le, take-at, drop-at, drop-drop}
-use Rattle.gap.specs.Sequence.{patch}
-use Rattle.gap.specs.Written.{Wrote}
+use Rattle.gap.specs.Rules.Sequence.{patch}
+use Rattle.gap.specs.Wording.Written.{Wrote}
 use Rattle.gap.proofs.Laws.Runs.{length-patch, patch-none, patch-one}
 
 pub wrote-none : (at : ℕ) (old : List ℕ) → at ≤ length old → Wrote at [] old at old

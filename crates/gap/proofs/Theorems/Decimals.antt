@@ -12,8 +12,8 @@ use lib.ListN.{length, getD, List·getD-append}
 use lib.Seq.{append-snoc}
 use borrow.Author.Tests.{eqb-true, eqb-false, eq-eqb, ne-eqb, not-true}
 use Rattle.gap.specs.declared.Number.the-variants.{Read, Unreadable}
-use Rattle.gap.specs.Sequence.{every}
-use Rattle.gap.specs.Decimal.{digit, valueAfter, value, isNumber, numberOf, decimal}
+use Rattle.gap.specs.Rules.Sequence.{every}
+use Rattle.gap.specs.Rules.Decimal.{digit, valueAfter, value, isNumber, numberOf, decimal}
 use Rattle.gap.proofs.Laws.Tests.{decided, and-left, and-right, and-both, or-cases, or-left, or-right}
 use Rattle.gap.proofs.Laws.Decimals.{by-tenths, decimal-digit, decimal-step, decimal-some, decimal-within, decimal-digits}
 use Rattle.gap.proofs.Laws.Decimals.{digit-range, value-within, value-decimal, number-tests, Numeral, number-is, number-read, number-unread}

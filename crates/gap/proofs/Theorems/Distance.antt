@@ -7,8 +7,8 @@ use Prim.Native.Nat.{ℕ, _≤_, _<_}
 use native.Mathlib.Omega.{arith}
 use Rattle.gap.specs.declared.Direction.{Direction}
 use Rattle.gap.specs.declared.Search.the-variants.{Reached, Nowhere}
-use Rattle.gap.specs.Doc.{Doc, move, times, room}
-use Rattle.gap.specs.Nearest.{distance}
+use Rattle.gap.specs.Rules.Doc.{Doc, move, times, room}
+use Rattle.gap.specs.Rules.Nearest.{distance}
 use Rattle.gap.proofs.Laws.Nearest.{Least, reached-least, least-reached, nowhere-none, none-nowhere}
 
 pub record LeastMoves (way : Direction) (place : Doc → Bool) (d : Doc) (n : ℕ) : Type 0 where

@@ -7,8 +7,8 @@ use native.Mathlib.Omega.{arith}
 use lib.ListN.{length, take, drop}
 use Rattle.gap.specs.declared.Direction.{Direction}
 use Rattle.gap.specs.declared.Direction.the-variants.{Left, Right}
-use Rattle.gap.specs.Sequence.{butLast, lastOf}
-use Rattle.gap.specs.Doc.{Doc, content, room, move, delete, times, splice}
+use Rattle.gap.specs.Rules.Sequence.{butLast, lastOf}
+use Rattle.gap.specs.Rules.Doc.{Doc, content, room, move, delete, times, splice}
 use Rattle.gap.proofs.Laws.Doc.{opposite, same-texts, insertions, front-append, back-append}
 use Rattle.gap.proofs.Laws.Doc.{content-moves, moves-back, deletions-behind}
 

@@ -8,7 +8,7 @@ use native.Mathlib.Omega.{arith}
 use lib.Dec.{eqb}
 use lib.ListN.{length, getD}
 use borrow.Author.Tests.{eqb-true}
-use Rattle.gap.specs.Lines.{newline, newlines, longer, lines}
+use Rattle.gap.specs.Rules.Lines.{newline, newlines, longer, lines}
 use Rattle.gap.proofs.Laws.Lines.{length-lines, lines-unbroken, firstLine, laterLines, lines-first}
 
 -- Newlines separate the text of the lines. 001 defines flatten for one line or more; without lines there is no text.

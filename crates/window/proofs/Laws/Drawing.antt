@@ -9,12 +9,12 @@ use lib.ListN.{length, drop, getD, take-append-drop, drop-of-length-le}
 use lib.Seq.{drop-cons, drop-drop}
 use borrow.Author.Tests.{ltb-false, le-ltb, le-leb, lt-leb}
 use borrow.Rule.Slice.PartMut.{midOf}
-use Rattle.gap.specs.Sequence.{part}
-use Rattle.gap.specs.Doc.{times}
-use Rattle.gap.specs.Lines.{newline, Unbroken}
+use Rattle.gap.specs.Rules.Sequence.{part}
+use Rattle.gap.specs.Rules.Doc.{times}
+use Rattle.gap.specs.Rules.Lines.{newline, Unbroken}
 use Rattle.gap.proofs.Laws.Sequence.{length-part}
 use Rattle.window.specs.Words.{Frame}
-use Rattle.window.specs.Painter.{Sheet, above, lineEnd, paint, finishPaint, RunEnd, Easel}
+use Rattle.window.specs.Wording.Painter.{Sheet, above, lineEnd, paint, finishPaint, RunEnd, Easel}
 use Rattle.window.proofs.Laws.Paint.{InRow, in-row, paint-append, paint-over, easel-on, easel-less}
 use Rattle.window.proofs.Laws.PaintedRun.{Run}
 use Rattle.window.proofs.Laws.DrawnCells.{Inside, row-end, run-row}
@@ -23,14 +23,14 @@ use Rattle.window.proofs.Laws.DrawnCells.{Inside, row-end, run-row}
 pub run-ends : {t : List ℕ} {i e : ℕ} → Unbroken t i e → (e < length t → getD t e 0 ≡ newline) → RunEnd t i e
 run-ends so-far stop = record { low = so-far .low; high = so-far .high; unbroken = so-far .bytes; stop = stop }
 
--- A text from place i on, cut at a later place.
+-- A text from index i on, cut at a later index.
 split-at : (i e : ℕ) (t : List ℕ) → i ≤ e → drop i t ≡ midOf i (e - i) t ++ drop e t
 split-at i e t later =
     let behind : i + (e - i) ≡ e = omega arith in
     let onward : drop (e - i) (drop i t) ≡ drop e t = rw (drop-drop, behind) in
     sym (rw (← onward) (take-append-drop (e - i) (drop i t)))
 
--- A text was drawn up to place i: what is left of it decides.
+-- A text was drawn up to index i: what is left of it decides.
 pub record Drawn (f : Frame) (t : List ℕ) (first : Sheet) (i : ℕ) (p : Sheet) : Type 0 where
   pub within : i ≤ length t
   pub easel : Easel f (length t - i) p

@@ -12,34 +12,34 @@ use lib.ListN.{length, take, drop, set, getD, replicate, drop-of-length-le, leng
 use lib.Seq.{drop-cons, drop-length, length-take-le, getD-at}
 use borrow.Author.Tests.{ltb-true, ltb-false, le-ltb, lt-leb}
 use borrow.Rule.Slice.PartMut.{midOf, putMid}
-use Rattle.gap.specs.Sequence.{sameBytes, part, patch}
+use Rattle.gap.specs.Rules.Sequence.{sameBytes, part, patch}
 use Rattle.gap.proofs.Laws.Tests.{decided, cond-false}
 use Rattle.gap.proofs.Laws.Sequence.{length-part}
-use Rattle.gap.proofs.Laws.Runs.{Copied, copied-none, copied-more, copied-all, part-lent}
+use Rattle.gap.proofs.Laws.Runs.{Copied, copied-none, copied-more, copied-all}
 use Rattle.window.specs.Words.{Frame}
 use Rattle.window.specs.declared.Pen.{Pen}
-use Rattle.window.specs.Painter.{Sheet, sheet, above, over, across, spotOf, Easel}
-use Rattle.window.specs.Painter.{put, along, penBelow, rowBelow, lineEnd, paint}
+use Rattle.window.specs.Wording.Painter.{Sheet, sheet, above, over, across, nextCell, cellOf, OnRow, Easel}
+use Rattle.window.specs.Wording.Painter.{put, along, penBelow, rowBelow, lineEnd, paint}
 use Rattle.window.proofs.Laws.Paint.{InRow, in-row, row-fits, blanks}
 use Rattle.window.proofs.Laws.PaintedRun.{Run, lowest, highest, paint-run-none, paint-run}
 
 -- The first i cells are those of the run; `same` tells whether they were so before, and the others decide the rest.
-pub record Written (run old : List ℕ) (s : List ℕ) (same : Bool) (i : ℕ) : Type 0 where
+pub record CellsWritten (run old : List ℕ) (s : List ℕ) (same : Bool) (i : ℕ) : Type 0 where
   pub whole : length run ≡ length old
   pub copied : Copied run old i s
   pub rest : sameBytes old run ≡ (same && sameBytes (drop i old) (drop i run))
 
-pub written-none : (run old : List ℕ) → length run ≡ length old → Written run old old true 0
+pub written-none : (run old : List ℕ) → length run ≡ length old → CellsWritten run old old true 0
 written-none run old e = record { whole = e; copied = copied-none run old (omega arith); rest = refl }
 
-module _ {run old s : List ℕ} {same : Bool} {i : ℕ} (so-far : Written run old s same i) where
+module _ {run old s : List ℕ} {same : Bool} {i : ℕ} (so-far : CellsWritten run old s same i) where
   untouched : i < length run → getD s i 0 ≡ getD old i 0
   untouched more =
       let within : i < length old = omega (arith, so-far .whole) in
       let size : length (take i run) ≡ i = length-take-le i run (so-far .copied .within) in
       rw (so-far .copied .bytes, drop-cons old i 0) (getD-at (take i run) _ _ 0 i size)
 
-  pub written-more : {b : ℕ} → i < length run → b ≡ getD run i 0 → Written run old (set s i b) (same && eqb (getD s i 0) b) (i + 1)
+  pub written-more : {b : ℕ} → i < length run → b ≡ getD run i 0 → CellsWritten run old (set s i b) (same && eqb (getD s i 0) b) (i + 1)
   unfolding sameBytes
   written-more more e = record {
     whole = so-far .whole;
@@ -58,7 +58,7 @@ module _ {run old s : List ℕ} {same : Bool} {i : ℕ} (so-far : Written run ol
 
 -- Blanks are a run of 32s.
 abbrev pub Blanked : List ℕ → List ℕ → Bool → ℕ → Type 0
-Blanked old s same i = Written (replicate (length old) 32) old s same i
+Blanked old s same i = CellsWritten (replicate (length old) 32) old s same i
 
 pub blanked-none : (old : List ℕ) → Blanked old old true 0
 blanked-none old = written-none (replicate (length old) 32) old (length-replicate {A = ℕ} (length old) 32)
@@ -86,112 +86,148 @@ on-screen {f} {n} {p} easel tests =
       small = rw (easel .long) (mul-le-mul (easel .rows) (easel .columns));
     }
 
--- The k bytes from place a on, as code lends them, and the store with others in their place.
-abbrev lent : ℕ → ℕ → List ℕ → List ℕ
-lent a k s = midOf a (a + k - a) s
+-- The bytes from index a to index b, as code lends them, and the store with others in their place.
+abbrev partLent : ℕ → ℕ → List ℕ → List ℕ
+partLent a b s = midOf a (b - a) s
 
-abbrev given : ℕ → ℕ → List ℕ → List ℕ → List ℕ
-given a k s t = putMid a (a + k - a) s t
+abbrev partBack : ℕ → ℕ → List ℕ → List ℕ → List ℕ
+partBack a b s t = putMid a (b - a) s t
 
-pub lent-size : (a k : ℕ) (s : List ℕ) → a + k ≤ length s → length (lent a k s) ≡ k
-lent-size a k s fits = ap length (part-lent a k s fits) ∙ length-part a k s fits
+part-size : (a b : ℕ) (s : List ℕ) → a ≤ b → b ≤ length s → length (partLent a b s) ≡ b - a
+unfolding part
+part-size a b s ordered fits = length-part a (b - a) s (omega arith)
 
 -- A part of the screen is lent, compared and written over: that is put.
-put-back : (pen : Pen) (screen run back : List ℕ) (at k : ℕ) (changed : Bool) → length run ≡ k → back ≡ run
-    → changed ≡ not (sameBytes (lent at k screen) run)
+put-back : (pen : Pen) (screen run back : List ℕ) (at stop : ℕ) (changed : Bool) → stop - at ≡ length run → back ≡ run
+    → changed ≡ not (sameBytes (partLent at stop screen) run)
     → sheet (record { y = pen .y; x = pen .x; changed = pen .changed || changed; first = pen .first; last = pen .last })
-    (given at k screen back)
+    (partBack at stop screen back)
     ≡ put at run (sheet pen screen)
 unfolding part patch
-put-back pen screen run back at k changed size e mark = let all : at + k - at ≡ length run = omega arith in rw (e, mark, all)
-
--- The cell at which the pen's row starts, and that of a column of the window.
-abbrev rowStart : Frame → Pen → ℕ
-rowStart f pen = (pen .y - f .r) * f .w
-
-abbrev cellOf : Frame → Pen → ℕ → ℕ
-cellOf f pen column = rowStart f pen + (column - f .c)
+put-back pen screen run back at stop changed size e mark = rw (e, mark, size)
 
 -- In a row of the window a line ends with blanks, and the pen goes below.
 pub row-end : (f : Frame) (p : Sheet) → InRow f (p .pen .y) (p .screen)
-    → lineEnd f p ≡ rowBelow f (put (spotOf f (p .pen)) (blanks f p) p)
+    → lineEnd f p ≡ rowBelow f (put (nextCell f (p .pen)) (blanks f p) p)
 unfolding lineEnd
 row-end f p row =
     cond-false _ _ (lt-leb (f .r + f .h) (p .pen .y) (row .bottom)) ∙ cond-false _ _ (le-ltb (p .pen .y) (f .r) (row .top))
 
--- Of the row some cells are done. The others are lent and come back blank.
-abbrev rest : Frame → Pen → ℕ → List ℕ → List ℕ
-rest f pen done screen = lent (rowStart f pen + done) (f .w - done) screen
+-- A screen is small, and so is each number on the way to a cell.
+pub cell-small : {f : Frame} {pen : Pen} {column : ℕ} → OnRow f pen column → ((pen .y - f .r) * f .w ≤ 16384) × (column - f .c ≤ 256)
+cell-small {f} {pen} row =
+    let few : pen .y - f .r ≤ 64 = omega (arith, row .top, row .bottom, row .rows) in
+    (mul-le-mul few (row .columns), omega (arith, row .columns, row .right))
 
-pub row-ended : {f : Frame} {pen q : Pen} {screen back : List ℕ} {done : ℕ} {changed : Bool} → OnScreen f (sheet pen screen)
-    → done ≡ across f pen
-    → back ≡ replicate (length (rest f pen done screen)) 32
-    → changed ≡ not (sameBytes (rest f pen done screen) (replicate (length (rest f pen done screen)) 32))
-    → q ≡ penBelow f pen (pen .changed || changed)
-    → sheet q (given (rowStart f pen + done) (f .w - done) screen back) ≡ lineEnd f (sheet pen screen)
-row-ended {f} {pen} {q} {screen} {back} {done} {changed} row e blank mark below =
-    let at = rowStart f pen + done in
-    let cells = length (rest f pen done screen) in
-    let size : cells ≡ f .w - done = lent-size at (f .w - done) screen (omega (arith, row .fits)) in
-    let as-many = length-replicate {A = ℕ} cells 32 ∙ size in
-    let written = put-back pen screen (replicate cells 32) back at (f .w - done) changed as-many blank mark in
-    rw below
-    (ap (rowBelow f) written
-    ∙ ap₂ (λ n d. rowBelow f (put (rowStart f pen + d) (replicate n 32) (sheet pen screen))) (size ∙ ap (λ d. f .w - d) e) e
-    ∙ sym (row-end f (sheet pen screen) (row .inside)))
+-- The columns from low to high of the pen's row, all in the window: their cells are on the screen.
+cells-fit : {f : Frame} {n : ℕ} {pen : Pen} {screen : List ℕ} → Easel f n (sheet pen screen) × Inside f (sheet pen screen)
+    → {at low high : ℕ} → at ≡ cellOf f pen low → f .c ≤ low → low ≤ high → high ≤ f .c + f .w
+    → (at + (high - low) ≤ length screen) × (length screen ≤ 16384)
+cells-fit asked cell left ordered right =
+    let row = on-screen (asked .0) (asked .1) in (omega (arith, row .fits), row .small)
 
--- Of the columns of a run, those from low on and before high are seen, and there are some.
-record Seen (c w x n low high : ℕ) : Type 0 where
-  left : c ≤ low
-  start : x ≤ low
-  some : low < high
-  right : high ≤ c + w
-  end : high ≤ x + n
+-- The end of a row begins at the pen's column or at an edge of the window w columns wide.
+pub record AtEdge (c w x low : ℕ) : Type 0 where
+  pub left : c ≤ low
+  pub right : low ≤ c + w
+  pub across : low - c ≡ min (x - c) w
+  pub rest : c + w - low ≡ w - min (x - c) w
 
-seen : {c w x n low high : ℕ} → low ≡ max c x → high ≡ min (c + w) (x + n) → low < high → Seen c w x n low high
-seen from to some = record { left = omega arith; start = omega arith; some = some; right = omega arith; end = omega arith }
+pub at-edge : {c w x low : ℕ} → low ≡ min (max c x) (c + w) → AtEdge c w x low
+at-edge {c} {w} {x} {low} from =
+    let across : low - c ≡ min (x - c) w = omega arith in
+    let left : c ≤ low = omega arith in
+    record { left = left; right = omega arith; across = across; rest = behind left across }
+  where
+    behind : {done : ℕ} → c ≤ low → low - c ≡ done → c + w - low ≡ w - done
+    behind left across = omega arith
 
-cells-fit : (start : ℕ) {size c w x n low high : ℕ} → Seen c w x n low high → start + w ≤ size → start + (low - c) + (high - low) ≤ size
-cells-fit start columns fits = omega arith
+-- Its cells are lent and come back blank.
+module _ {f : Frame} {pen : Pen} {screen : List ℕ} (asked : Easel f 1 (sheet pen screen) × Inside f (sheet pen screen))
+    {low at : ℕ} (edge : AtEdge (f .c) (f .w) (pen .x) low) (cell : at ≡ cellOf f pen low) where
+  abbrev rest : List ℕ
+  rest = partLent at (at + (f .c + f .w - low)) screen
 
-bytes-fit : {c w x n low high : ℕ} → Seen c w x n low high → low - x + (high - low) ≤ n
-bytes-fit columns = omega arith
+  pub rest-fits : (at + (f .c + f .w - low) ≤ length screen) × (length screen ≤ 16384)
+  rest-fits = cells-fit asked cell (edge .left) (edge .right) (omega arith)
 
--- Their cells are on the screen, which is small, and their bytes are in the run.
-pub record Shown (f : Frame) (pen : Pen) (screen run : List ℕ) (low high : ℕ) : Type 0 where
-  pub cells : cellOf f pen low + (high - low) ≤ length screen
-  pub small : length screen ≤ 16384
-  pub bytes : low - pen .x + (high - low) ≤ length run
+  pub row-ended : {q : Pen} {back : List ℕ} {changed : Bool} → back ≡ replicate (length rest) 32
+      → changed ≡ not (sameBytes rest (replicate (length rest) 32)) → q ≡ penBelow f pen (pen .changed || changed)
+      → sheet q (partBack at (at + (f .c + f .w - low)) screen back) ≡ lineEnd f (sheet pen screen)
+  row-ended {q} {back} {changed} blank mark below =
+      let stop = at + (f .c + f .w - low) in
+      let all : stop - at ≡ f .c + f .w - low = omega arith in
+      let size : length rest ≡ f .c + f .w - low = part-size at stop screen (omega arith) (rest-fits .0) ∙ all in
+      let as-many = all ∙ sym size ∙ sym (length-replicate {A = ℕ} (length rest) 32) in
+      let next : at ≡ nextCell f pen = cell ∙ ap (λ n. (pen .y - f .r) * f .w + n) (edge .across) in
+      rw below
+      (ap (rowBelow f) (put-back pen screen (replicate (length rest) 32) back at stop changed as-many blank mark)
+      ∙ ap₂ (λ a n. rowBelow f (put a (replicate n 32) (sheet pen screen))) next (size ∙ edge .rest)
+      ∙ sym (row-end f (sheet pen screen) (on-screen (asked .0) (asked .1) .inside)))
 
--- A run in a row of the window, of which no columns are seen or some.
-module _ {f : Frame} {pen : Pen} {screen : List ℕ} (row : OnScreen f (sheet pen screen)) (run : List ℕ) {low high : ℕ}
-    (from : low ≡ max (f .c) (pen .x)) (to : high ≡ min (f .c + f .w) (pen .x + length run)) where
-  pub shown : low < high → Shown f pen screen run low high
-  shown some =
-      let columns = seen from to some in
-      record { cells = cells-fit (rowStart f pen) columns (row .fits); small = row .small; bytes = bytes-fit columns }
+-- Of a run of n bytes at column x, the columns from low to high are in the window w columns wide: where they are, and their bytes.
+pub record SeenColumns (c w x n low high : ℕ) : Type 0 where
+  pub left : c ≤ low
+  pub right : high ≤ c + w
+  pub ordered : low - x ≤ high - x
+  pub bytes : high - x ≤ n
+  pub size : high - x - (low - x) ≡ high - low
 
+all-columns-seen : {c w x n low high : ℕ} → low ≡ max c x → high ≡ min (c + w) (x + n) → low < high → SeenColumns c w x n low high
+all-columns-seen {c} {w} {x} {n} {low} {high} from to some =
+    let start : x ≤ low = omega arith in
+    record {
+      left = omega arith;
+      right = omega arith;
+      ordered = omega (arith, start);
+      bytes = omega arith;
+      size = apart start some;
+    }
+  where
+    apart : x ≤ low → low < high → high - x - (low - x) ≡ high - low
+    apart start more = omega arith
+
+-- A run in a row of the window, of which no columns are seen or those from low to high.
+module _ {f : Frame} {pen : Pen} {screen : List ℕ} (run : List ℕ) (asked : Easel f (length run) (sheet pen screen) × Inside f (sheet pen screen))
+    {low high : ℕ} (from : low ≡ max (f .c) (pen .x)) (to : high ≡ min (f .c + f .w) (pen .x + length run)) where
   pub run-unseen : {q : Pen} → Run run → high ≤ low
       → q ≡ record { y = pen .y; x = pen .x + length run; changed = pen .changed; first = pen .first; last = pen .last }
       → sheet q screen ≡ paint f run (sheet pen screen)
   run-unseen unbroken none moved =
-      rw moved (sym (paint-run-none f run (sheet pen screen) (row .inside) unbroken (omega arith)))
+      rw moved (sym (paint-run-none f run (sheet pen screen) (on-screen (asked .0) (asked .1) .inside) unbroken (omega arith)))
 
-  pub run-drawn : {q : Pen} {back : List ℕ} {changed : Bool} → Run run → low < high
-      → back ≡ lent (low - pen .x) (high - low) run
-      → changed ≡ not (sameBytes (lent (cellOf f pen low) (high - low) screen) (lent (low - pen .x) (high - low) run))
-      → q ≡ record { y = pen .y; x = pen .x + length run; changed = pen .changed || changed; first = pen .first; last = pen .last }
-      → sheet q (given (cellOf f pen low) (high - low) screen back) ≡ paint f run (sheet pen screen)
-  run-drawn {q} {back} {changed} unbroken some e mark moved =
-      let fits = shown some .bytes in
-      let cells = lent (low - pen .x) (high - low) run in
-      let size = lent-size (low - pen .x) (high - low) run fits in
-      let drawn : ℕ → List ℕ → Sheet = λ column s. along (length run) (put (cellOf f pen column) s (sheet pen screen)) in
-      rw moved
-      (ap (along (length run)) (put-back pen screen cells back (cellOf f pen low) (high - low) changed size e mark)
-      ∙ ap (drawn low) (part-lent (low - pen .x) (high - low) run fits)
-      ∙ ap₂ (λ l h. drawn l (part (l - pen .x) (h - l) run)) from to
-      ∙ sym (paint-run f run (sheet pen screen) (row .inside) unbroken (omega arith)))
+  pub seen-columns : low < high → SeenColumns (f .c) (f .w) (pen .x) (length run) low high
+  seen-columns some = all-columns-seen from to some
+
+  -- Their cells, and their bytes.
+  module _ {at : ℕ} (some : low < high) (cell : at ≡ cellOf f pen low) where
+    abbrev cells : List ℕ
+    cells = partLent at (at + (high - low)) screen
+
+    abbrev bytes : List ℕ
+    bytes = partLent (low - pen .x) (high - pen .x) run
+
+    pub fits : (at + (high - low) ≤ length screen) × (length screen ≤ 16384)
+    fits = cells-fit asked cell (seen-columns some .left) (omega arith) (seen-columns some .right)
+
+    size : length bytes ≡ high - low
+    size = part-size (low - pen .x) (high - pen .x) run (seen-columns some .ordered) (seen-columns some .bytes) ∙ seen-columns some .size
+
+    pub as-long : length bytes ≡ length cells
+    as-long = size ∙ sym (part-size at (at + (high - low)) screen (omega arith) (fits .0) ∙ omega arith)
+
+    pub run-drawn : {q : Pen} {back : List ℕ} {changed : Bool} → Run run → back ≡ bytes → changed ≡ not (sameBytes cells bytes)
+        → q ≡ record { y = pen .y; x = pen .x + length run; changed = pen .changed || changed; first = pen .first; last = pen .last }
+        → sheet q (partBack at (at + (high - low)) screen back) ≡ paint f run (sheet pen screen)
+    unfolding part
+    run-drawn {q} {back} {changed} unbroken e mark moved =
+        let all : at + (high - low) - at ≡ length bytes = omega (arith, size) in
+        let drawn : ℕ → List ℕ → Sheet = λ a s. along (length run) (put a s (sheet pen screen)) in
+        rw moved
+        (ap (along (length run)) (put-back pen screen bytes back at (at + (high - low)) changed all e mark)
+        ∙ ap₂ (λ a k. drawn a (part (low - pen .x) k run)) cell (seen-columns some .size)
+        ∙ ap₂ (λ l h. drawn (cellOf f pen l) (part (l - pen .x) (h - l) run)) from to
+        ∙ sym (paint-run f run (sheet pen screen) (on-screen (asked .0) (asked .1) .inside) unbroken (omega arith)))
 
 -- A run leaves the pen in its row.
 pub run-row : (f : Frame) (run : List ℕ) (p : Sheet) → InRow f (p .pen .y) (p .screen) → Run run → paint f run p .pen .y ≡ p .pen .y

@@ -2,14 +2,14 @@
 use mathlib.Core.Path.{_≡_, ap, _∙_}
 use Prim.Native.Nat.{_≤_, _<_}
 use borrow.Author.Tests.{le-leb, lt-leb}
-use Rattle.editor.specs.Plain.{SIZE, SESSION}
+use Rattle.editor.specs.Rules.Refusals.{SIZE, SESSION}
 use Rattle.window.specs.Words.{Bool, cond, ℕ, Session, Key}
 use Rattle.window.specs.declared.Reply.{Reply}
 use Rattle.window.specs.declared.host.Record.{Record}
 use Rattle.window.specs.declared.host.HostReply.{HostReply}
-use Rattle.window.specs.Core.{Lent, refusal, tabled, opened, keyed}
-use Rattle.window.specs.Calls.{called}
-use Rattle.window.specs.Host.{sessionFrom, keyFrom, saidOf, given, numbersOf, givenOf, hostOpened, hostKeyed}
+use Rattle.window.specs.Rules.Core.{Lent, refusal, tabled, opened, keyed}
+use Rattle.window.specs.Wording.Calls.{called}
+use Rattle.window.specs.Rules.Host.{sessionFrom, keyFrom, saidOf, given, numbersOf, givenOf, hostOpened, hostKeyed}
 
 module _ {q : HostReply} (r : Reply) (now : Lent) (same : q ≡ numbersOf r) where
   pub opened-given : (n H W : ℕ) (b : Lent) → called r now ≡ opened n H W b → given q now ≡ hostOpened n H W b

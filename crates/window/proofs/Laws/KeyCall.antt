@@ -9,29 +9,30 @@ use native.Mathlib.Omega.{arith}
 use lib.Dec.{eqb, leb}
 use lib.ListN.{length, length-append, length-take}
 use borrow.Author.Tests.{leb-true, eq-eqb}
-use Rattle.gap.specs.Doc.{Doc}
-use Rattle.gap.specs.Layout.{ungap}
+use Rattle.gap.specs.Rules.Doc.{Doc}
+use Rattle.gap.specs.Rules.Layout.{ungap}
 use Rattle.gap.proofs.Laws.Tests.{and-left, and-right, and-both, cond-true, cond-false}
 use Rattle.gap.proofs.Laws.Layout.{length-gapped}
+use Rattle.editor.specs.declared.EditorReply.{EditorReply}
+use Rattle.editor.specs.Rules.Refusals.{SIZE, SESSION}
+use Rattle.editor.specs.Rules.Plain.{Plain, Did, Outcome, refused, done}
 use Rattle.gap.proofs.Laws.Lines.{newlines-fit, since-fits}
-use Rattle.editor.specs.declared.Reply.{Reply as editorReply}
-use Rattle.editor.specs.Plain.{Plain, Did, Outcome, refused, done, SIZE, SESSION}
-use Rattle.editor.specs.Keys.{key}
-use Rattle.editor.specs.Bytes.{Stores, quarter, quarterOf, sized, plainOf, lengthsOf, storesOf, editorOk, editedTo}
-use Rattle.editor.specs.Promise.{Sound, stores, replied}
+use Rattle.editor.specs.Rules.Keys.{key}
+use Rattle.editor.specs.Rules.Bytes.{Stores, quarter, quarterOf, sized, plainOf, lengthsOf, storesOf, editorOk, editedTo}
+use Rattle.editor.specs.Wording.Promise.{Sound, stores}
 use Rattle.editor.proofs.Laws.Fitting.{fitting}
 use Rattle.editor.proofs.Theorems.Layouts.{plain-of-encoded, session-encoded, encoded-sized, encoded-ok}
 use Rattle.editor.proofs.Theorems.Sessions.{key-keeps}
 use Rattle.editor.proofs.Theorems.Refusals.{refused-number}
-use Rattle.window.specs.Words.{Lengths, Frame, Session, Key, Mode, Main, Quoted}
+use Rattle.window.specs.Words.{Lengths, Frame, Session, Key, Mode, Main, Quoted, Report}
 use Rattle.window.specs.declared.Spot.{Spot}
 use Rattle.window.specs.declared.Rows.{Rows}
 use Rattle.window.specs.declared.Reply.{Reply}
-use Rattle.window.specs.Window.{virtual, virtualIn, rowOf, columnOf, window, visible, policy}
-use Rattle.window.specs.Core.{Lent, Called, T, rowsAndColumns, tabled, isSession, shown, finished, keyed, held, lentOf}
-use Rattle.window.specs.Rows.{firstRow, lastRow}
-use Rattle.window.specs.Painter.{Canvas}
-use Rattle.window.specs.Calls.{spotIn, visibleAt, policyAt, Texts, virtualHeld, Refreshed, lent, called, reported}
+use Rattle.window.specs.Rules.Window.{virtual, virtualIn, rowOf, columnOf, window, visible, policy}
+use Rattle.window.specs.Rules.Core.{Lent, Called, T, rowsAndColumns, tabled, isSession, shown, finished, keyed, held, lentOf}
+use Rattle.window.specs.Rules.Rows.{firstRow, lastRow}
+use Rattle.window.specs.Wording.Painter.{Canvas}
+use Rattle.window.specs.Wording.Calls.{spotIn, visibleAt, policyAt, Texts, virtualHeld, Refreshed, lent, called, turnedDownReply, reported}
 use Rattle.window.proofs.Laws.Window.{policy-visible, Visible, visible-says}
 use Rattle.window.proofs.Laws.Views.{tabled-facts, session-view}
 use Rattle.window.proofs.Theorems.Sessions.{session-keyed}
@@ -91,15 +92,14 @@ front-short l r s = simp length-take (omega arith)
 -- ---- An accepted key shown
 
 -- The outcome of an accepted key, from its parts.
-abbrev pub shownAs : ℕ → Bool → ℕ → ℕ → Spot → Frame → Lengths → List ℕ → Stores → Called
-shownAs steps bell first last spot g n screen b =
+abbrev pub shownAs : Report → ℕ → ℕ → Spot → Frame → Lengths → List ℕ → Stores → Called
+shownAs report first last spot g n screen b =
     record {
       answer =
           record {
             code = 0;
             place = 0;
-            steps = steps;
-            bell = bell;
+            report = report;
             first = first;
             last = last;
             row = spot .row - g .r;
@@ -109,29 +109,22 @@ shownAs steps bell first last spot g n screen b =
       lent = record { stores = b; screen = screen };
     }
 
--- The reply to a refused key.
-abbrev pub turnedDownReply : ℕ → Session → Reply
-turnedDownReply code s =
-    record {
-      answer = record { code = code; place = 0; steps = 0; bell = false; first = 0; last = 0; row = 0; column = 0 };
-      session = s;
-    }
-
 pub row-from-one : (d : Doc) (spot : Spot) → spot ≡ spotIn d → 1 ≤ spot .row
 row-from-one d spot here = omega (arith, ap (λ q. q .row) here)
 
 -- Frame f follows the cursor of the lent texts: the spot is the cursor's, and g shows it.
-module _ (f : Frame) (n : Lengths) (t c s scr : List ℕ) (sound : Sound quarter n (stores t c s)) (fit : tabled (f .h) (f .w) (lent t c s scr) ≡ true)
-    (spot : Spot) (here : spot ≡ spotIn (virtualHeld n t s)) where
+module _ (f : Frame) (n : Lengths) (t s scr : List ℕ) (held : Texts n t s) (frame : rowsAndColumns (f .h) (f .w) ≡ true)
+    (long : length scr ≡ f .h * f .w) (spot : Spot) (here : spot ≡ spotIn (virtualHeld n t s)) where
   module _ (g : Frame) (follows : g ≡ policyAt f spot) where
+    rows : (1 ≤ f .h) × (f .h ≤ 64)
+    rows = let e = and-left (leb 1 (f .h) && leb (f .h) 64) _ frame in (leb-true _ _ (and-left _ _ e), leb-true _ _ (and-right (leb 1 (f .h)) _ e))
+
     followed : g ≡ policy f (virtualHeld n t s)
     unfolding policy
     followed = follows ∙ ap (policyAt f) here
 
     pub still-visible : visible g (virtualHeld n t s) ≡ true
-    still-visible =
-        ap (λ q. visible q (virtualHeld n t s)) followed
-        ∙ policy-visible f (virtualHeld n t s) (tabled-facts (f .h) (f .w) (lent t c s scr) fit .rows)
+    still-visible = ap (λ q. visible q (virtualHeld n t s)) followed ∙ policy-visible f (virtualHeld n t s) (rows .0)
 
     says : Visible g (rowOf (virtualHeld n t s)) (columnOf (virtualHeld n t s))
     says = visible-says g (virtualHeld n t s) still-visible
@@ -145,20 +138,17 @@ module _ (f : Frame) (n : Lengths) (t c s scr : List ℕ) (sound : Sound quarter
     pub shown-canvas : Canvas g (length t) scr
     unfolding quarter
     shown-canvas =
-        let facts = tabled-facts (f .h) (f .w) (lent t c s scr) fit in
-        let held = texts-held n t c s sound in
         let d = virtualHeld n t s in
         let left = left-short (n .mode) (ungap (n .main .l) (n .main .r) t) (ungap (n .quoted .l) (n .quoted .r) (quarterOf quarter 0 s)) in
         let document = front-short (n .main .l) (n .main .r) t in
         let quotation = front-short (n .quoted .l) (n .quoted .r) (quarterOf quarter 0 s) in
-        let tall = leb-true (f .h) 64 (and-right (leb 1 (f .h)) _ (and-left (leb 1 (f .h) && leb (f .h) 64) _ (facts .frame))) in
-        let wide = leb-true (f .w) 256 (and-right (leb 1 (f .w)) _ (and-right (leb 1 (f .h) && leb (f .h) 64) _ (facts .frame))) in
-        let rows : g .h ≡ f .h = ap (λ q. q .h) follows in
-        let columns : g .w ≡ f .w = ap (λ q. q .w) follows in
+        let wide = leb-true (f .w) 256 (and-right (leb 1 (f .w)) _ (and-right (leb 1 (f .h) && leb (f .h) 64) _ frame)) in
+        let same-rows : g .h ≡ f .h = ap (λ q. q .h) follows in
+        let same-columns : g .w ≡ f .w = ap (λ q. q .w) follows in
         record {
-          long = facts .long ∙ sym (ap₂ (λ h w. h * w) rows columns);
-          rows = omega (arith, rows, tall);
-          columns = omega (arith, columns, wide);
+          long = long ∙ sym (ap₂ (λ h w. h * w) same-rows same-columns);
+          rows = omega (arith, same-rows, rows .1);
+          columns = omega (arith, same-columns, wide);
           offsets = (
             omega (arith, says .top, newlines-fit (d .l), left, document, quotation, held .document, held .long, held .quotation),
             omega (arith, says .left, since-fits 0 (d .l), left, document, quotation, held .document, held .long, held .quotation),
@@ -166,29 +156,30 @@ module _ (f : Frame) (n : Lengths) (t c s scr : List ℕ) (sound : Sound quarter
           short = omega (arith, held .long);
         }
 
-    -- The reply is what the definition shows.
-    pub shows-so : (steps : ℕ) (bell : Bool) (rows : Rows) (new : List ℕ) → Refreshed g (virtualHeld n t s) scr rows new
-        → shownAs steps bell (rows .first) (rows .last) spot g n new (stores t c s)
-        ≡ shown f (lent t c s scr) (record { state = plainOf quarter n (stores t c s); steps = steps; bell = bell })
+    -- The reply is what the definition shows, whatever the recall store holds.
+    pub shows-so : (report : Report) (rows : Rows) (new : List ℕ) → Refreshed g (virtualHeld n t s) scr rows new
+        → (c : List ℕ) → Sound quarter n (stores t c s)
+        → shownAs report (rows .first) (rows .last) spot g n new (stores t c s)
+        ≡ shown f (lent t c s scr) (record { state = plainOf quarter n (stores t c s); report = report })
     unfolding shown plainOf policy
-    shows-so steps bell rows new fresh =
+    shows-so report rows new fresh c sound =
         let d = virtualHeld n t s in
         let encoded = session-encoded quarter n (stores t c s) (sound .tabled) (sound .ok) in
         let first = ap (λ q. q .first) (fresh .rows) ∙ ap (λ q. firstRow (q .h) (q .w) scr (window q d)) followed in
         let last = ap (λ q. q .last) (fresh .rows) ∙ ap (λ q. lastRow (q .h) (q .w) scr (window q d)) followed in
         let screen = fresh .screen ∙ ap (λ q. window q d) followed in
-        λ i. shownAs steps bell (first i) (last i) (here i) (followed i) (sym (encoded .lengths) i) (screen i) (sym (encoded .stores) i)
+        λ i. shownAs report (first i) (last i) (here i) (followed i) (sym (encoded .lengths) i) (screen i) (sym (encoded .stores) i)
 
 -- ---- The editor's outcome
 
 -- What the editor's reply and stores are, by the plain editor's outcome.
-module _ (n : Lengths) (b after : Stores) (r : editorReply) where
-  refused-reply : (code : ℕ) → replied r after ≡ editedTo quarter n b (refused code) → (r .code ≡ code) × (after ≡ b)
-  refused-reply code e = (ap (λ q. q .code) e, ap (λ q. q .stores) e)
+module _ (n : Lengths) (b after : Stores) (r : EditorReply) where
+  refused-reply : (code : ℕ) → record { reply = r; stores = after } ≡ editedTo quarter n b (refused code) → (r .code ≡ code) × (after ≡ b)
+  refused-reply code e = (ap (λ q. q .reply .code) e, ap (λ q. q .stores) e)
 
-  done-reply : (did : Did Plain) → replied r after ≡ editedTo quarter n b (done did)
-      → (r .lengths ≡ lengthsOf (did .state)) × (after ≡ storesOf (length (b .text)) quarter (did .state)) × (r .steps ≡ did .steps) × (r .bell ≡ did .bell)
-  done-reply did e = (ap (λ q. q .lengths) e, ap (λ q. q .stores) e, ap (λ q. q .steps) e, ap (λ q. q .bell) e)
+  done-reply : (did : Did Plain) → record { reply = r; stores = after } ≡ editedTo quarter n b (done did)
+      → (r .lengths ≡ lengthsOf (did .state)) × (after ≡ storesOf (length (b .text)) quarter (did .state)) × (r .report ≡ did .report)
+  done-reply did e = (ap (λ q. q .reply .lengths) e, ap (λ q. q .stores) e, ap (λ q. q .reply .report) e)
 
 -- A key refused before the editor is asked.
 pub refused-size : (s : Session) (k : Key) (b : Lent) → tabled (s .frame .h) (s .frame .w) b ≡ false
@@ -208,37 +199,37 @@ unfolding isSession
 session-sound s b fit ok = record { tabled = tabled-facts (s .frame .h) (s .frame .w) b fit .stores; ok = and-left _ _ ok }
 
 -- What is known once the editor has done a key: record and stores are sound, the sizes are as before, and showing them is `keyed`.
-pub record Accepted (s : Session) (k : Key) (b : Lent) (after : Stores) (r : editorReply) : Type 0 where
+pub record Accepted (s : Session) (k : Key) (b : Lent) (after : Stores) (r : EditorReply) : Type 0 where
   pub sound : Sound quarter (r .lengths) after
   pub fit : tabled (s .frame .h) (s .frame .w) (record { stores = after; screen = b .screen }) ≡ true
   pub shows : shown (s .frame) (record { stores = after; screen = b .screen }) (reported r after) ≡ keyed s k b
 
 module _ (s : Session) (k : Key) (b : Lent) (fit : tabled (s .frame .h) (s .frame .w) b ≡ true) (ok : isSession s (b .stores) ≡ true)
-    (after : Stores) (r : editorReply) where
-  refused-so : (o : Outcome) → replied r after ≡ editedTo quarter (s .lengths) (b .stores) o → 0 < r .code
+    (after : Stores) (r : EditorReply) where
+  refused-so : (o : Outcome) → record { reply = r; stores = after } ≡ editedTo quarter (s .lengths) (b .stores) o → 0 < r .code
       → called (turnedDownReply (r .code) s) (record { stores = after; screen = b .screen }) ≡ finished s b o
   unfolding finished
   refused-so (refused code) e positive =
       let (number, same) = refused-reply (s .lengths) (b .stores) after r code e in
       λ i. called (turnedDownReply (number i) s) (record { stores = same i; screen = b .screen })
-  refused-so (done did) e positive = absurd (omega (arith, ap (λ q. q .code) e))
+  refused-so (done did) e positive = absurd (omega (arith, ap (λ q. q .reply .code) e))
 
   -- A refusal's number is above 0, so the code tells whether the key was refused.
-  pub press-refused : replied r after ≡ editedTo quarter (s .lengths) (b .stores) (key (T (b .stores)) quarter k (held s (b .stores))) → 0 < r .code
+  pub press-refused : record { reply = r; stores = after } ≡ editedTo quarter (s .lengths) (b .stores) (key (T (b .stores)) quarter k (held s (b .stores))) → 0 < r .code
       → (q : Reply) → q ≡ turnedDownReply (r .code) s → called q (record { stores = after; screen = b .screen }) ≡ keyed s k b
   press-refused edits positive q same =
       ap (λ x. called x (record { stores = after; screen = b .screen })) same
       ∙ (refused-so (key (T (b .stores)) quarter k (held s (b .stores))) edits positive ∙ sym (session-keyed s k b fit ok))
 
   done-so : (o : Outcome) → key (T (b .stores)) quarter k (held s (b .stores)) ≡ o
-      → replied r after ≡ editedTo quarter (s .lengths) (b .stores) o → r .code ≤ 0 → Accepted s k b after r
+      → record { reply = r; stores = after } ≡ editedTo quarter (s .lengths) (b .stores) o → r .code ≤ 0 → Accepted s k b after r
   unfolding tabled shown finished storesOf
   done-so (refused code) outcome e zero-code =
       let number = refused-number (T (b .stores)) quarter k (held s (b .stores)) code outcome in
       let same = refused-reply (s .lengths) (b .stores) after r code e .0 in
       absurd (⊎-elim (λ is-key. omega (arith, is-key, same)) (λ is-full. omega (arith, is-full, same)) number)
   done-so (done did) outcome e zero-code =
-      let (lengths, same, steps, bell) = done-reply (s .lengths) (b .stores) after r did e in
+      let (lengths, same, report) = done-reply (s .lengths) (b .stores) after r did e in
       let facts = tabled-facts (s .frame .h) (s .frame .w) b fit in
       let kept = key-keeps (T (b .stores)) quarter k (held s (b .stores)) did (session-view s b fit ok .good .sound) outcome in
       let sized-so = ap (sized quarter) same ∙ encoded-sized (T (b .stores)) quarter (did .state) (facts .low) (facts .high) kept in
@@ -250,11 +241,11 @@ module _ (s : Session) (k : Key) (b : Lent) (fit : tabled (s .frame .h) (s .fram
         sound = record { tabled = sized-so; ok = ok-so };
         fit = and-both sized-so (and-both (facts .frame) (eq-eqb _ _ (facts .long)));
         shows =
-            ap (shown (s .frame) (record { stores = after; screen = b .screen })) (λ i. record { state = state i; steps = steps i; bell = bell i })
+            ap (shown (s .frame) (record { stores = after; screen = b .screen })) (λ i. record { state = state i; report = report i })
             ∙ (ap (λ t. record { answer = o .answer; session = o .session; lent = lentOf t (did .state) (o .session .frame) }) long
             ∙ (ap (finished s b) (sym outcome) ∙ sym (session-keyed s k b fit ok)));
       }
 
-  pub press-done : replied r after ≡ editedTo quarter (s .lengths) (b .stores) (key (T (b .stores)) quarter k (held s (b .stores))) → r .code ≤ 0
+  pub press-done : record { reply = r; stores = after } ≡ editedTo quarter (s .lengths) (b .stores) (key (T (b .stores)) quarter k (held s (b .stores))) → r .code ≤ 0
       → Accepted s k b after r
   press-done edits zero-code = done-so (key (T (b .stores)) quarter k (held s (b .stores))) refl edits zero-code

@@ -9,9 +9,9 @@ use lib.Dec.{eqb}
 use lib.ListN.{length, take, length-append}
 use lib.Seq.{take-take, take-length, length-take-le, take-append-seam, take-append-add}
 use borrow.Author.Tests.{eqb-true}
-use Rattle.gap.specs.Lines.{newline, newlines, sinceAfter, since}
+use Rattle.gap.specs.Rules.Lines.{newline, newlines, sinceAfter, since}
 use Rattle.gap.proofs.Laws.Lines.{newlines-append, since-append, since-unbroken}
-use Rattle.window.specs.Painter.{LineStart}
+use Rattle.window.specs.Wording.Painter.{LineStart}
 
 -- A text with a newline, cut at its last one.
 record LastNewline (s : List ℕ) : Type 0 where
@@ -58,7 +58,7 @@ last-line a z unbroken =
       start = λ x. rw upTo (since-append x a (newline ∷ []));
     }
 
--- Going back: of the k newlines to pass, `left` are left in front of place `end`, and one more at least.
+-- Going back: of the k newlines to pass, `left` are left in front of index `end`, and one more at least.
 pub record Back (t : List ℕ) (k left end : ℕ) : Type 0 where
   pub some : k < newlines t
   pub within : end ≤ length t
@@ -81,7 +81,7 @@ module _ {t : List ℕ} {k left end : ℕ} (so-far : Back t k left end) {column 
   pub back-room : 1 ≤ end - column
   back-room = omega (arith, line .room, long)
 
-  -- Up to a place in front of `end`, the first `end` bytes and all bytes are the same.
+  -- Up to an index in front of `end`, the first `end` bytes and all bytes are the same.
   same : (n m : ℕ) → n ≤ end → n ≡ m → take n t ≡ take m (take end t)
   same n m inside e = sym (take-take n end t inside) ∙ ap (λ x. take x (take end t)) e
 

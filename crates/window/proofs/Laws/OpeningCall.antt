@@ -1,9 +1,8 @@
 -- The opening call: what its tests refuse, and what a text that passes them becomes in the four stores.
-use mathlib.Core.Path.{_≡_, sym, ap, ap₂, _∙_}
+use mathlib.Core.Path.{_≡_, sym, ap, _∙_}
 use mathlib.Core.Bool.{Bool, true, false, not, _&&_}
-use mathlib.Core.List.{List, [], _++_}
-use Prim.Native.Nat.{ℕ, _+_, _*_, _≤_, _<_}
-use native.Mathlib.Nat.{sub-zero}
+use mathlib.Core.List.{List, []}
+use Prim.Native.Nat.{ℕ, _+_, _≤_, _<_}
 use native.Mathlib.Omega.{arith}
 use lib.Dec.{leb}
 use lib.ListN.{length, take, getD}
@@ -11,47 +10,29 @@ use lib.Seq.{length-take-le, getD-take}
 use borrow.Author.Tests.{leb-true, le-leb, lt-leb, not-true, not-false}
 use Rattle.gap.specs.declared.Search.{Search}
 use Rattle.gap.specs.declared.Search.the-variants.{Reached, Nowhere}
-use Rattle.gap.specs.Sequence.{zeros}
-use Rattle.gap.specs.Doc.{Doc, empty}
-use Rattle.gap.specs.Nearest.{nearest}
-use Rattle.gap.specs.Lines.{newlines, sinceAfter}
-use Rattle.gap.specs.Layout.{allowed, gapped, paired, ungap}
+use Rattle.gap.specs.Rules.Doc.{Doc}
+use Rattle.gap.specs.Rules.Nearest.{nearest}
+use Rattle.gap.specs.Rules.Lines.{newlines, sinceAfter}
+use Rattle.gap.specs.Rules.Layout.{allowed, gapped, ungap}
 use Rattle.gap.proofs.Laws.Tests.{and-left, and-right, cond-true, cond-false}
-use Rattle.gap.proofs.Laws.Sequence.{length-zeros}
 use Rattle.gap.proofs.Laws.Layout.{length-gapped, ungap-gapped}
-use Rattle.gap.proofs.Laws.Runs.{zeros-both}
+use Rattle.editor.specs.Rules.Refusals.{SIZE, LONG, TEXT}
+use Rattle.editor.specs.Rules.Plain.{quiet}
 use Rattle.gap.proofs.Laws.Nearest.{nearest-same}
-use Rattle.editor.specs.Plain.{opening, SIZE, LONG, TEXT}
-use Rattle.editor.specs.Bytes.{quarter, lengthsOf, storesOf}
-use Rattle.editor.proofs.Laws.Quotation.{no-quotation}
+use Rattle.editor.specs.Rules.Bytes.{quarter, lengthsOf, storesOf}
+use Rattle.editor.specs.Wording.Promise.{stores, Opens, openingLengths}
 use Rattle.editor.proofs.Laws.Session.{measured}
 use Rattle.window.specs.Words.{Lengths}
 use Rattle.window.specs.declared.Rows.{Rows}
 use Rattle.window.specs.declared.Reply.{Reply}
-use Rattle.window.specs.Window.{virtualIn, window, visible}
-use Rattle.window.specs.Painter.{Canvas}
-use Rattle.window.specs.Core.{Lent, T, tabled, zeroRecord, start, openedText, badByte, unlessBad, opened}
-use Rattle.window.specs.Calls.{Texts, virtualHeld, Refreshed, lent, called, openingLengths}
+use Rattle.window.specs.Rules.Window.{virtualIn, window, visible}
+use Rattle.window.specs.Wording.Painter.{Canvas}
+use Rattle.window.specs.Rules.Core.{Lent, T, tabled, start, openedText, badByte, unlessBad, opened}
+use Rattle.window.specs.Wording.Calls.{Texts, virtualHeld, Refreshed, lent, called, unopenedReply}
 use Rattle.window.proofs.Laws.Views.{tabled-facts}
 use Rattle.window.proofs.Theorems.Sessions.{start-seen}
 
--- ---- The stores of a text newly opened
-
--- Zeros hold an empty pair, and four quarters of zeros the empty side store.
-zeros-pair : (size : ℕ) → zeros size ≡ paired size empty
-unfolding paired
-zeros-pair size = ap zeros (sym (sub-zero size))
-
-pairs-twice : (Q : ℕ) → zeros (2 * Q) ≡ paired Q empty ++ paired Q empty
-pairs-twice Q =
-    let double : 2 * Q ≡ Q + Q = omega arith in
-    ap zeros double ∙ sym (zeros-both Q Q) ∙ ap₂ _++_ (zeros-pair Q) (zeros-pair Q)
-
-zeros-side : (Q : ℕ) → zeros (4 * Q) ≡ gapped Q empty ++ (paired Q empty ++ (paired Q empty ++ paired Q empty))
-zeros-side Q =
-    let four : 4 * Q ≡ 2 * Q + 2 * Q = omega arith in
-    ap zeros four ∙ sym (zeros-both (2 * Q) (2 * Q)) ∙ no-quotation Q (zeros (2 * Q))
-    ∙ ap (λ rest. gapped Q empty ++ (paired Q empty ++ rest)) (pairs-twice Q)
+-- ---- A text newly opened
 
 -- What the painter asks of a screen that is as tabled, before any text.
 start-canvas : (H W : ℕ) (b : Lent) → tabled H W b ≡ true → (n : ℕ) → n ≤ 65536 → Canvas (start H W) n (b .screen)
@@ -81,17 +62,21 @@ module _ (n H W : ℕ) (b : Lent) (fit : tabled H W b ≡ true) (fits : n ≤ T 
   short : 0 + length (take n text) ≤ T (b .stores)
   short = omega (arith, size)
 
-  lengths-opened : openingLengths n ≡ lengthsOf (opening (take n text))
-  unfolding lengthsOf
-  lengths-opened = ap openingLengths (sym size)
+  -- With lengths and stores as the editor leaves them.
+  module _ {m : Lengths} {textThen recallThen sideThen : List ℕ} (opens : Opens m n (b .stores) (stores textThen recallThen sideThen))
+      (kept : length sideThen ≡ length (b .stores .side)) where
+    main : textThen ≡ gapped (T (b .stores)) document
+    unfolding storesOf
+    main = ap (λ s. s .text) (opens .stores)
 
-  -- With lengths and stores as the code leaves them.
-  module _ {m : Lengths} {textThen sideThen : List ℕ} (lengths : m ≡ openingLengths n)
-      (main : textThen ≡ gapped (T (b .stores)) document) (behind : sideThen ≡ zeros (length (b .stores .side))) where
+    lengths : m ≡ openingLengths n
+    unfolding lengthsOf
+    lengths = opens .lengths ∙ ap openingLengths size
+
     holds : virtualHeld m textThen sideThen ≡ document
     unfolding virtualIn
     holds =
-        (λ i. virtualHeld (lengths i) (main i) (behind i))
+        (λ i. virtualHeld (lengths i) (main i) sideThen)
         ∙ ap (λ k. ungap 0 k (gapped (T (b .stores)) document)) (sym size)
         ∙ ungap-gapped (T (b .stores)) document short
 
@@ -106,7 +91,7 @@ module _ (n H W : ℕ) (b : Lent) (fit : tabled H W b ≡ true) (fits : n ≤ T 
             document = rw lengths (omega (arith, long, fits));
             long = omega (arith, long, facts .high);
             quotation = rw lengths (omega arith);
-            quarters = ap length behind ∙ length-zeros (length (b .stores .side)) ∙ sizes .side;
+            quarters = kept ∙ sizes .side;
           },
           (
             start-canvas H W b fit (length textThen) (omega (arith, facts .high)),
@@ -115,28 +100,21 @@ module _ (n H W : ℕ) (b : Lent) (fit : tabled H W b ≡ true) (fits : n ≤ T 
         )
 
     -- The reply and the four stores are those of the text opened.
-    pub text-opened : {recallThen screenThen : List ℕ} {rows : Rows} → recallThen ≡ zeros (length (b .stores .recall))
+    pub text-opened : {screenThen : List ℕ} {rows : Rows}
         → Refreshed (start H W) (virtualHeld m textThen sideThen) (b .screen) rows screenThen
         → called
         (record {
-          answer = record { code = 0; place = 0; steps = 0; bell = false; first = 1; last = H; row = 1; column = 0 };
+          answer = record { code = 0; place = 0; report = quiet; first = 1; last = H; row = 1; column = 0 };
           session = record { lengths = m; frame = start H W };
         })
         (lent textThen recallThen sideThen screenThen)
         ≡ openedText n H W b
-    unfolding openedText virtualIn newlines sinceAfter storesOf
-    text-opened cleared fresh =
-        let facts = tabled-facts H W b fit in
-        let sizes = measured quarter (b .stores) (facts .stores) in
-        let sameRecall = cleared ∙ ap zeros (sizes .recall) ∙ zeros-pair (T (b .stores)) in
-        let sameSide = behind ∙ ap zeros (sizes .side) ∙ zeros-side quarter in
+    unfolding openedText virtualIn newlines sinceAfter
+    text-opened fresh =
         λ i. record {
-          answer = record { code = 0; place = 0; steps = 0; bell = false; first = 1; last = H; row = 1; column = 0 };
-          session = record { lengths = (lengths ∙ lengths-opened) i; frame = start H W };
-          lent = record {
-            stores = record { text = main i; recall = sameRecall i; side = sameSide i };
-            screen = (fresh .screen ∙ ap (window (start H W)) holds) i;
-          };
+          answer = record { code = 0; place = 0; report = quiet; first = 1; last = H; row = 1; column = 0 };
+          session = record { lengths = opens .lengths i; frame = start H W };
+          lent = record { stores = opens .stores i; screen = (fresh .screen ∙ ap (window (start H W)) holds) i };
         }
 
 -- ---- The three tests
@@ -151,13 +129,6 @@ bad-byte-within n text fits =
 -- Sizes that pass the test are as tabled.
 pub stores-fit : (H W : ℕ) (b : Lent) {ok : Bool} → ok ≡ tabled H W b → not ok ≡ false → tabled H W b ≡ true
 stores-fit H W b known passed = sym known ∙ not-false _ passed
-
--- A refused opening as the code answers it.
-abbrev unopenedReply : ℕ → ℕ → Reply
-unopenedReply code place = record {
-  answer = record { code = code; place = place; steps = 0; bell = false; first = 0; last = 0; row = 0; column = 0 };
-  session = zeroRecord;
-}
 
 -- SIZE, then LONG, then TEXT, each where the tests before it passed.
 module _ (n H W : ℕ) (b : Lent) {ok : Bool} (known : ok ≡ tabled H W b) where

@@ -9,13 +9,13 @@ use native.Mathlib.Omega.{arith}
 use lib.Dec.{eqb, leb, ltb}
 use lib.ListN.{length, take, drop, replicate, take-append-drop, length-replicate}
 use borrow.Author.Tests.{ltb-true, ltb-false, leb-true, leb-false, lt-ltb, le-ltb, lt-leb}
-use Rattle.gap.specs.Lines.{newline, newlines, sinceAfter}
+use Rattle.gap.specs.Rules.Lines.{newline, newlines, sinceAfter}
 use Rattle.gap.proofs.Laws.Tests.{cond-true}
 use Rattle.gap.proofs.Laws.Runs.{length-patch}
 use Rattle.gap.proofs.Laws.Lines.{since-unbroken}
 use Rattle.window.specs.Words.{Frame}
-use Rattle.window.specs.Painter.{Sheet, above, over, across, spotOf, put, along, letter, lineBelow, rowBelow, lineEnd, paint}
-use Rattle.window.specs.Painter.{Easel, LineStart}
+use Rattle.window.specs.Wording.Painter.{Sheet, above, over, across, nextCell, put, along, letter, lineBelow, rowBelow, lineEnd, paint}
+use Rattle.window.specs.Wording.Painter.{Easel, LineStart}
 
 -- What one byte does.
 abbrev pub byte : Frame → ℕ → Sheet → Sheet
@@ -130,7 +130,7 @@ module _ (f : Frame) where
       only-moves t p (record { up = up; fits = omega arith; start = λ q. start (p .pen .x) })
       ∙ ap₂ (λ y x. moved y x p) top (start (p .pen .x))
 
-  -- A text in which the window's first line starts at a place: from there on it is painted.
+  -- A text in which the window's first line starts at an index: from there on it is painted.
   pub paint-from : (t : List ℕ) (p : Sheet) (at : ℕ) → p .pen .y < f .r → f .r ≤ p .pen .y + newlines t
       → LineStart t (p .pen .y + newlines t - f .r) at → paint f t p ≡ paint f (drop at t) (moved (f .r) 0 p)
   paint-from t p at up reaches s =
@@ -160,10 +160,10 @@ blanks f p = replicate (f .w - across f (p .pen)) 32
 
 -- A cell of the pen's row lies on the screen, and so does what is left of the row.
 module _ (f : Frame) (p : Sheet) (h : InRow f (p .pen .y) (p .screen)) where
-  pub letter-fits : f .c ≤ p .pen .x → p .pen .x < f .c + f .w → spotOf f (p .pen) + 1 ≤ length (p .screen)
+  pub letter-fits : f .c ≤ p .pen .x → p .pen .x < f .c + f .w → nextCell f (p .pen) + 1 ≤ length (p .screen)
   letter-fits left right = omega (arith, row-fits (p .pen .y - f .r) (f .h) (f .w) (omega arith))
 
-  pub blanks-fit : spotOf f (p .pen) + length (blanks f p) ≤ length (p .screen)
+  pub blanks-fit : nextCell f (p .pen) + length (blanks f p) ≤ length (p .screen)
   blanks-fit = rw length-replicate (omega (arith, row-fits (p .pen .y - f .r) (f .h) (f .w) (omega arith)))
 
 -- What a letter does, by where the pen is.
@@ -173,13 +173,13 @@ pub data Lettered (f : Frame) (b : ℕ) (p : Sheet) : Sheet → Type 0 where
   letter-before : InRow f (p .pen .y) (p .screen) → p .pen .x < f .c → Lettered f b p (along 1 p)
   letter-behind : InRow f (p .pen .y) (p .screen) → f .c + f .w ≤ p .pen .x → Lettered f b p (along 1 p)
   letter-inside : InRow f (p .pen .y) (p .screen) → f .c ≤ p .pen .x → p .pen .x < f .c + f .w
-      → Lettered f b p (along 1 (put (spotOf f (p .pen)) (b ∷ []) p))
+      → Lettered f b p (along 1 (put (nextCell f (p .pen)) (b ∷ []) p))
 
 -- What the end of a line does.
 pub data Ended (f : Frame) (p : Sheet) : Sheet → Type 0 where
   end-below : over f (p .pen) ≡ true → Ended f p p
   end-higher : p .pen .y < f .r → Ended f p (lineBelow p)
-  end-inside : InRow f (p .pen .y) (p .screen) → Ended f p (rowBelow f (put (spotOf f (p .pen)) (blanks f p) p))
+  end-inside : InRow f (p .pen .y) (p .screen) → Ended f p (rowBelow f (put (nextCell f (p .pen)) (blanks f p) p))
 
 module _ (f : Frame) (p : Sheet) (long : length (p .screen) ≡ f .h * f .w) where
   pub lettered : (b : ℕ) → Lettered f b p (letter f b p)
@@ -188,7 +188,7 @@ module _ (f : Frame) (p : Sheet) (long : length (p .screen) ≡ f .h * f .w) whe
     where
       go : (is-over is-above from to : Bool) → over f (p .pen) ≡ is-over → above f (p .pen) ≡ is-above
           → leb (f .c) (p .pen .x) ≡ from → ltb (p .pen .x) (f .c + f .w) ≡ to
-          → Lettered f b p (cond is-over p (along 1 (cond (not is-above && (from && to)) (put (spotOf f (p .pen)) (b ∷ []) p) p)))
+          → Lettered f b p (cond is-over p (along 1 (cond (not is-above && (from && to)) (put (nextCell f (p .pen)) (b ∷ []) p) p)))
       go true is-above from to e a l r = letter-below e
       go false true from to e a l r = letter-higher (ltb-true _ _ a)
       go false false false to e a l r = letter-before (in-row f p long a e) (leb-false _ _ l)
@@ -200,7 +200,7 @@ module _ (f : Frame) (p : Sheet) (long : length (p .screen) ≡ f .h * f .w) whe
   ended = go _ _ refl refl
     where
       go : (is-over is-above : Bool) → over f (p .pen) ≡ is-over → above f (p .pen) ≡ is-above
-          → Ended f p (cond is-over p (cond is-above (lineBelow p) (rowBelow f (put (spotOf f (p .pen)) (blanks f p) p))))
+          → Ended f p (cond is-over p (cond is-above (lineBelow p) (rowBelow f (put (nextCell f (p .pen)) (blanks f p) p))))
       go true is-above e a = end-below e
       go false true e a = end-higher (ltb-true _ _ a)
       go false false e a = end-inside (in-row f p long a e)
@@ -217,14 +217,14 @@ letter-onward f b p _ (letter-higher up) = omega arith
 letter-onward f b p _ (letter-before h left) = omega arith
 letter-onward f b p _ (letter-behind h right) = omega arith
 letter-onward f b p _ (letter-inside h left right) =
-    let same = length-patch (spotOf f (p .pen)) (b ∷ []) (p .screen) (letter-fits f p h left right) in
+    let same = length-patch (nextCell f (p .pen)) (b ∷ []) (p .screen) (letter-fits f p h left right) in
     record { down = omega arith; right = omega arith; same = same }
 
 end-onward : (f : Frame) (p q : Sheet) → Ended f p q → Onward 1 p q
 end-onward f p _ (end-below e) = omega arith
 end-onward f p _ (end-higher up) = omega arith
 end-onward f p _ (end-inside h) =
-    let same = length-patch (spotOf f (p .pen)) (blanks f p) (p .screen) (blanks-fit f p h) in
+    let same = length-patch (nextCell f (p .pen)) (blanks f p) (p .screen) (blanks-fit f p h) in
     record { down = omega arith; right = omega arith; same = same }
 
 -- What holds of both holds of the chosen one.

@@ -8,14 +8,14 @@ use native.Mathlib.Omega.{arith}
 use lib.Dec.{eqb}
 use lib.ListN.{length, take, drop, getD, replicate, length-replicate, getD-replicate, List·getD-eq-default}
 use lib.Seq.{drop-cons, getD-take, getD-drop, getD-at, ext-getD}
-use Rattle.gap.specs.Sequence.{part}
-use Rattle.gap.specs.Doc.{Doc, content}
-use Rattle.gap.specs.Lines.{newline, newlines, since, lines}
+use Rattle.gap.specs.Rules.Sequence.{part}
+use Rattle.gap.specs.Rules.Doc.{Doc, content}
+use Rattle.gap.specs.Rules.Lines.{newline, newlines, since, lines}
 use Rattle.gap.proofs.Laws.Sequence.{length-part}
 use Rattle.gap.proofs.Laws.Lines.{newlines-append, length-lines, lines-first, firstLine, lastLine, length-last, cursor-line}
 use Rattle.window.specs.Words.{Frame}
-use Rattle.window.specs.Window.{window}
-use Rattle.window.specs.Painter.{Sheet, across, spotOf}
+use Rattle.window.specs.Rules.Window.{window}
+use Rattle.window.specs.Wording.Painter.{Sheet, across, nextCell}
 use Rattle.window.proofs.Laws.Window.{length-window, window-cell}
 use Rattle.window.proofs.Laws.Paint.{row-fits, InRow, blanks}
 
@@ -78,22 +78,22 @@ module _ (f : Frame) (d : Doc) (p : Sheet) (h : InRow f (p .pen .y) (p .screen))
       window-at f d (p .pen .y - f .r) m (omega arith) inside ∙ ap (λ y. getD (lineOf d y) (f .c + m) 32) line
 
   pub letter-cell : (b : ℕ) → f .c ≤ p .pen .x → p .pen .x < f .c + f .w → getD (lineOf d (p .pen .y)) (p .pen .x) 32 ≡ b
-      → b ∷ [] ≡ part (spotOf f (p .pen)) 1 (window f d)
+      → b ∷ [] ≡ part (nextCell f (p .pen)) 1 (window f d)
   letter-cell b left right this =
       let inside : across f (p .pen) < f .w = omega arith in
       let column : f .c + across f (p .pen) ≡ p .pen .x = omega arith in
       ap (λ a. a ∷ [])
       (sym (cell-at (across f (p .pen)) inside ∙ ap (λ x. getD (lineOf d (p .pen .y)) x 32) column ∙ this))
-      ∙ one-cell (window f d) (spotOf f (p .pen)) (omega (arith, row-fits-window))
+      ∙ one-cell (window f d) (nextCell f (p .pen)) (omega (arith, row-fits-window))
 
-  pub blanks-cells : length (lineOf d (p .pen .y)) ≡ p .pen .x → blanks f p ≡ part (spotOf f (p .pen)) (length (blanks f p)) (window f d)
+  pub blanks-cells : length (lineOf d (p .pen .y)) ≡ p .pen .x → blanks f p ≡ part (nextCell f (p .pen)) (length (blanks f p)) (window f d)
   blanks-cells all =
       rw length-replicate
-      (blank-cells (window f d) (spotOf f (p .pen)) (f .w - across f (p .pen)) (omega (arith, row-fits-window)) blank)
+      (blank-cells (window f d) (nextCell f (p .pen)) (f .w - across f (p .pen)) (omega (arith, row-fits-window)) blank)
     where
-      blank : (j : ℕ) → j < f .w - across f (p .pen) → getD (window f d) (spotOf f (p .pen) + j) 32 ≡ 32
+      blank : (j : ℕ) → j < f .w - across f (p .pen) → getD (window f d) (nextCell f (p .pen) + j) 32 ≡ 32
       blank j less =
-          let on : (p .pen .y - f .r) * f .w + (across f (p .pen) + j) ≡ spotOf f (p .pen) + j = omega arith in
+          let on : (p .pen .y - f .r) * f .w + (across f (p .pen) + j) ≡ nextCell f (p .pen) + j = omega arith in
           ap (λ k. getD (window f d) k 32) (sym on)
           ∙ cell-at (across f (p .pen) + j) (omega arith)
           ∙ List·getD-eq-default (lineOf d (p .pen .y)) 32 {n = f .c + (across f (p .pen) + j)} (omega arith)

@@ -10,12 +10,12 @@ use lib.Dec.{eqb}
 use lib.ListN.{length, take, drop, length-append, length-take, length-drop, drop-of-length-le}
 use lib.Seq.{length-take-le, take-add, take-at, take-all, drop-at, drop-drop}
 use borrow.Author.Tests.{ne-eqb}
-use Rattle.gap.specs.Sequence.{sameBytes, part, patch}
+use Rattle.gap.specs.Rules.Sequence.{sameBytes, part, patch}
 use Rattle.gap.proofs.Laws.Tests.{clash}
 use Rattle.gap.proofs.Laws.Compared.{same-parts}
 use Rattle.window.specs.Words.{Frame}
-use Rattle.window.specs.Rows.{changed, firstRow, lastRow}
-use Rattle.window.specs.Painter.{Sheet, begun, put, rowBelow}
+use Rattle.window.specs.Rules.Rows.{changed, firstRow, lastRow}
+use Rattle.window.specs.Wording.Painter.{Sheet, begun, put, rowBelow}
 use Rattle.window.proofs.Laws.Rows.{Named, nothing, run, named}
 use Rattle.window.proofs.Laws.Paint.{moved}
 
@@ -67,7 +67,7 @@ named-once test H a b c d (run x) (run y) =
     let s : ¬ (d < b) = λ h. clash (x .last-passes) (y .below b h (x .high)) in
     (omega arith, omega arith)
 
--- A screen that is the new one up to place k, where the next cells of the new one are put.
+-- A screen that is the new one up to index k, where the next cells of the new one are put.
 module _ (k : ℕ) (next old new : List ℕ) (fits : k + length next ≤ length new) (same : next ≡ part k (length next) new) where
   front : length (take k new) ≡ k
   front = length-take-le k new (omega arith)

@@ -8,15 +8,15 @@ use lib.Dec.{eqb}
 use lib.ListN.{length, take, drop, length-append, length-take, length-drop}
 use lib.Seq.{take-add, take-all, take-nil, drop-drop, drop-nil}
 use borrow.Author.Tests.{lt-ltb, le-ltb, le-leb, lt-leb, not-true}
-use Rattle.gap.specs.Sequence.{every, sameBytes, part, patch}
-use Rattle.gap.specs.Lines.{newline}
+use Rattle.gap.specs.Rules.Sequence.{every, sameBytes, part, patch}
+use Rattle.gap.specs.Rules.Lines.{newline}
 use Rattle.gap.proofs.Laws.Tests.{and-left, and-right, cond-false}
 use Rattle.gap.proofs.Laws.Sequence.{length-part, take-least}
 use Rattle.gap.proofs.Laws.Runs.{length-patch, patch-none}
 use Rattle.gap.proofs.Laws.Patches.{part-behind, patch-behind}
 use Rattle.gap.proofs.Laws.Compared.{same-append}
 use Rattle.window.specs.Words.{Frame}
-use Rattle.window.specs.Painter.{Sheet, above, over, spotOf, put, along, letter, lineEnd, paint}
+use Rattle.window.specs.Wording.Painter.{Sheet, above, over, nextCell, put, along, letter, lineEnd, paint}
 use Rattle.window.proofs.Laws.Paint.{moved, InRow, letter-fits}
 
 -- Nothing put changes nothing, and two runs side by side are put as one.
@@ -80,7 +80,7 @@ module _ (f : Frame) (p : Sheet) (h : InRow f (p .pen .y) (p .screen)) where
       let left : f .c ≤ p .pen .x = omega arith in
       rw (not-over, not-above, le-leb (f .c) (p .pen .x) left, le-ltb (p .pen .x) (f .c + f .w) right)
 
-  letter-between : (b : ℕ) → f .c ≤ p .pen .x → p .pen .x < f .c + f .w → letter f b p ≡ along 1 (put (spotOf f (p .pen)) (b ∷ []) p)
+  letter-between : (b : ℕ) → f .c ≤ p .pen .x → p .pen .x < f .c + f .w → letter f b p ≡ along 1 (put (nextCell f (p .pen)) (b ∷ []) p)
   unfolding letter
   letter-between b left right = rw (not-over, not-above, le-leb (f .c) (p .pen .x) left, lt-ltb (p .pen .x) (f .c + f .w) right)
 
@@ -124,38 +124,38 @@ module _ (c w x : ℕ) where
 module _ (f : Frame) where
   run-painted : (u : List ℕ) (p : Sheet) (i k : ℕ) → InRow f (p .pen .y) (p .screen) → Run u
       → i ≡ f .c - p .pen .x → k ≡ f .c + f .w - (p .pen .x + i)
-      → paint f u p ≡ along (length u) (put (spotOf f (p .pen)) (take k (drop i u)) p)
+      → paint f u p ≡ along (length u) (put (nextCell f (p .pen)) (take k (drop i u)) p)
   unfolding paint
   run-painted [] p i k h unbroken ei ek =
       let here : p .pen .x ≡ p .pen .x + 0 = omega arith in
-      ap (λ x. moved (p .pen .y) x p) here ∙ sym (ap (along 0) (rw (take-drop-nil i k) (put-none (spotOf f (p .pen)) p)))
+      ap (λ x. moved (p .pen .y) x p) here ∙ sym (ap (along 0) (rw (take-drop-nil i k) (put-none (nextCell f (p .pen)) p)))
   run-painted (b ∷ u) p (suc i) k h unbroken ei ek =
       let numbers = left-of (f .c) (f .w) (p .pen .x) i k ei ek in
       run-letter f b u p unbroken
       ∙ ap (paint f u) (letter-left f p h b (numbers .0))
       ∙ run-painted u (along 1 p) i k h (run-rest b u unbroken) (numbers .1) (numbers .2)
-      ∙ along-put (length u) (spotOf f (along 1 p .pen)) (take k (drop i u)) p
+      ∙ along-put (length u) (nextCell f (along 1 p .pen)) (take k (drop i u)) p
       ∙ ap (λ n. along (suc (length u)) (put ((p .pen .y - f .r) * f .w + n) (take k (drop i u)) p)) (numbers .3)
   run-painted (b ∷ u) p zero zero h unbroken ei ek =
       let numbers = right-of (f .c) (f .w) (p .pen .x) ei ek in
       run-letter f b u p unbroken
       ∙ ap (paint f u) (letter-right f p h b (numbers .0))
       ∙ run-painted u (along 1 p) 0 0 h (run-rest b u unbroken) (numbers .1) (numbers .2)
-      ∙ along-put (length u) (spotOf f (along 1 p .pen)) [] p
-      ∙ ap (along (suc (length u))) (put-none (spotOf f (along 1 p .pen)) p ∙ sym (put-none (spotOf f (p .pen)) p))
+      ∙ along-put (length u) (nextCell f (along 1 p .pen)) [] p
+      ∙ ap (along (suc (length u))) (put-none (nextCell f (along 1 p .pen)) p ∙ sym (put-none (nextCell f (p .pen)) p))
   run-painted (b ∷ u) p zero (suc k) h unbroken ei ek =
       let numbers = between (f .c) (f .w) (p .pen .x) k ei ek in
-      let next : spotOf f (along 1 p .pen) ≡ spotOf f (p .pen) + 1 = omega arith in
+      let next : nextCell f (along 1 p .pen) ≡ nextCell f (p .pen) + 1 = omega arith in
       let fits = letter-fits f p h (numbers .0) (numbers .1) in
-      let same = length-patch (spotOf f (p .pen)) (b ∷ []) (p .screen) fits ∙ h .long in
-      let written = put (spotOf f (p .pen)) (b ∷ []) p in
+      let same = length-patch (nextCell f (p .pen)) (b ∷ []) (p .screen) fits ∙ h .long in
+      let written = put (nextCell f (p .pen)) (b ∷ []) p in
       run-letter f b u p unbroken
       ∙ ap (paint f u) (letter-between f p h b (numbers .0) (numbers .1))
       ∙ run-painted u (along 1 written) 0 k (record { long = same; top = h .top; bottom = h .bottom }) (run-rest b u unbroken)
       (numbers .2) (numbers .3)
-      ∙ along-put (length u) (spotOf f (along 1 p .pen)) (take k u) written
+      ∙ along-put (length u) (nextCell f (along 1 p .pen)) (take k u) written
       ∙ ap (λ at. along (suc (length u)) (put at (take k u) written)) next
-      ∙ ap (along (suc (length u))) (put-two (spotOf f (p .pen)) (b ∷ []) (take k u) p fits)
+      ∙ ap (along (suc (length u))) (put-two (nextCell f (p .pen)) (b ∷ []) (take k u) p fits)
 
 -- No more can be taken than there is.
 take-min : (k : ℕ) (s : List ℕ) → take k s ≡ take (min k (length s)) s
@@ -192,7 +192,7 @@ abbrev left : Frame → Sheet → ℕ
 left f p = f .c + f .w - (p .pen .x + before f p)
 
 module _ (f : Frame) (u : List ℕ) (p : Sheet) (h : InRow f (p .pen .y) (p .screen)) (run : Run u) where
-  from-c : paint f u p ≡ along (length u) (put (spotOf f (p .pen)) (take (left f p) (drop (before f p) u)) p)
+  from-c : paint f u p ≡ along (length u) (put (nextCell f (p .pen)) (take (left f p) (drop (before f p) u)) p)
   from-c = run-painted f u p (before f p) (left f p) h run refl refl
 
   shown : take (left f p) (drop (before f p) u) ≡ part (lowest f p - p .pen .x) (highest f (length u) p - lowest f p) u
@@ -209,8 +209,8 @@ module _ (f : Frame) (u : List ℕ) (p : Sheet) (h : InRow f (p .pen .y) (p .scr
   paint-run-none none =
       let empty : highest f (length u) p - lowest f p ≡ 0 = omega arith in
       from-c
-      ∙ ap (λ s. along (length u) (put (spotOf f (p .pen)) s p)) (shown ∙ ap (λ k. take k (drop (lowest f p - p .pen .x) u)) empty)
-      ∙ ap (along (length u)) (put-none (spotOf f (p .pen)) p)
+      ∙ ap (λ s. along (length u) (put (nextCell f (p .pen)) s p)) (shown ∙ ap (λ k. take k (drop (lowest f p - p .pen .x) u)) empty)
+      ∙ ap (along (length u)) (put-none (nextCell f (p .pen)) p)
 
   pub paint-run : lowest f p < highest f (length u) p
       → paint f u p

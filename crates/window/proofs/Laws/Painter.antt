@@ -10,16 +10,16 @@ use lib.Dec.{eqb}
 use lib.ListN.{length, getD, length-replicate}
 use lib.Seq.{append-snoc}
 use borrow.Author.Tests.{lt-ltb, le-ltb, le-leb, lt-leb, leb-true}
-use Rattle.gap.specs.Doc.{Doc, content, times}
-use Rattle.gap.specs.Lines.{newline, newlines, sinceAfter, since, lines}
+use Rattle.gap.specs.Rules.Doc.{Doc, content, times}
+use Rattle.gap.specs.Rules.Lines.{newline, newlines, sinceAfter, since, lines}
 use Rattle.gap.proofs.Laws.Tests.{clash, decided, cond-true}
 use Rattle.gap.proofs.Laws.Lines.{newlines-append, since-append, firstLine}
 use Rattle.window.specs.Words.{Frame}
 use Rattle.window.specs.declared.Pen.{Pen}
-use Rattle.window.specs.Window.{window}
-use Rattle.window.specs.Rows.{firstRow, lastRow}
-use Rattle.window.specs.Painter.{Sheet, begun, above, over, across, spotOf, put, along, letter, lineBelow, rowBelow}
-use Rattle.window.specs.Painter.{lineEnd, paint, finishPaint}
+use Rattle.window.specs.Rules.Window.{window}
+use Rattle.window.specs.Rules.Rows.{firstRow, lastRow}
+use Rattle.window.specs.Wording.Painter.{Sheet, begun, above, over, across, nextCell, put, along, letter, lineBelow, rowBelow}
+use Rattle.window.specs.Wording.Painter.{lineEnd, paint, finishPaint}
 use Rattle.window.proofs.Laws.Window.{length-window}
 use Rattle.window.proofs.Laws.Paint.{byte, paint-over, InRow, letter-fits, blanks, blanks-fit, Lettered, lettered, Ended, ended}
 use Rattle.window.proofs.Laws.Paint.{letter-below, letter-higher, letter-before, letter-behind, letter-inside}
@@ -85,7 +85,7 @@ module _ (f : Frame) (d : Doc) (old : List ℕ) (size : length old ≡ f .h * f 
         within = painted .within;
         so-far =
             reached-at f old new refl (more ∙ sym (shown-inside f (along 1 p .pen) (p .screen) h))
-            (reached-moved f old new n (m + 1) (p .pen .y) (p .pen .x + 1) (put (spotOf f (p .pen)) (b ∷ []) p) next);
+            (reached-moved f old new n (m + 1) (p .pen .y) (p .pen .x + 1) (put (nextCell f (p .pen)) (b ∷ []) p) next);
       }
 
   end-painted : (p q : Sheet) → Painted f d old p → length (lineOf d (p .pen .y)) ≡ p .pen .x → Ended f p q → Painted f d old q
@@ -103,7 +103,7 @@ module _ (f : Frame) (d : Doc) (old : List ℕ) (size : length old ≡ f .h * f 
       let n = p .pen .y - f .r in
       let m = across f (p .pen) in
       let new = window f d in
-      let rest = put (spotOf f (p .pen)) (blanks f p) p in
+      let rest = put (nextCell f (p .pen)) (blanks f p) p in
       let full : m + length (blanks f p) ≡ f .w = rw length-replicate (omega arith) in
       let so-far = reached-at f old new refl (shown-inside f (p .pen) (p .screen) h) (painted .so-far) in
       let blank = reached-put f old new size (length-window f d) n m (blanks f p) p (blanks-fit f p h) (blanks-cells f d p h all) so-far in

@@ -7,16 +7,16 @@ use Prim.Native.Nat.{ℕ, _+_, _^_, _≤_}
 use native.Mathlib.Omega.{arith}
 use lib.ListN.{length, take, length-append, length-take, length-drop}
 use lib.Seq.{length-take-le}
-use Rattle.gap.specs.Doc.{Doc, content}
-use Rattle.gap.specs.Lines.{newlines}
-use Rattle.gap.specs.Layout.{ungap}
+use Rattle.gap.specs.Rules.Doc.{Doc, content}
+use Rattle.gap.specs.Rules.Lines.{newlines}
+use Rattle.gap.specs.Rules.Layout.{ungap}
 use Rattle.gap.proofs.Laws.Lines.{newlines-append}
-use Rattle.editor.specs.Bytes.{quarter, quarterOf}
+use Rattle.editor.specs.Rules.Bytes.{quarter, quarterOf}
 use Rattle.window.specs.Words.{Lengths, Mode, Main, Quoted, Frame}
-use Rattle.window.specs.Window.{virtualIn, visible}
-use Rattle.window.specs.Painter.{Sheet, begun, above, paint, finishPaint, Easel, Canvas}
+use Rattle.window.specs.Rules.Window.{virtualIn, visible}
+use Rattle.window.specs.Wording.Painter.{Sheet, begun, above, paint, finishPaint, Easel, Canvas}
 use Rattle.window.specs.declared.Rows.{Rows}
-use Rattle.window.specs.Calls.{Texts, virtualHeld, Refreshed}
+use Rattle.window.specs.Wording.Calls.{Texts, virtualHeld, Refreshed}
 use Rattle.window.proofs.Laws.Window.{visible-says}
 use Rattle.window.proofs.Laws.Spots.{first-quarter}
 use Rattle.window.proofs.Laws.Paint.{paint-not-above, easel-on}
@@ -30,19 +30,19 @@ module _ (n : Lengths) (text side : List ℕ) where
   main-held mode = rw mode
 
   pub quoted-held : n .mode ≡ Quoted
-      → virtualIn Quoted (ungap (n .main .l) (n .main .r) text) (ungap (n .quoted .l) (n .quoted .r) (take 256 side))
+      → virtualIn Quoted (ungap (n .main .l) (n .main .r) text) (ungap (n .quoted .l) (n .quoted .r) (take quarter side))
       ≡ virtualHeld n text side
   unfolding quarter
   quoted-held mode = rw (mode, first-quarter)
 
 -- What painting a quotation asks of its quarter.
-pub quarter-size : {n : Lengths} {text side : List ℕ} → Texts n text side → 256 ≡ length (take 256 side)
+pub quarter-size : {n : Lengths} {text side : List ℕ} → Texts n text side → quarter ≡ length (take quarter side)
 unfolding quarter
-quarter-size {side = side} texts = sym (length-take-le 256 side (omega arith))
+quarter-size {side = side} texts = sym (length-take-le quarter side (omega arith))
 
 pub quoted-asked : {f : Frame} {n : Lengths} {text side screen : List ℕ} → Texts n text side → Canvas f (length text) screen
-    → Canvas f (length text + length (take 256 side)) screen
-    × ((n .main .l + n .main .r ≤ length text) × (n .quoted .l + n .quoted .r ≤ length (take 256 side)))
+    → Canvas f (length text + length (take quarter side)) screen
+    × ((n .main .l + n .main .r ≤ length text) × (n .quoted .l + n .quoted .r ≤ length (take quarter side)))
 unfolding quarter
 quoted-asked texts canvas =
     let size = quarter-size texts in (
@@ -68,7 +68,7 @@ length-held n text side texts =
     let whole = length-virtual (n .mode) (ungap (n .main .l) (n .main .r) text) (ungap (n .quoted .l) (n .quoted .r) front) in
     let document = length-ungap (n .main .l) (n .main .r) text in
     let quotation = length-ungap (n .quoted .l) (n .quoted .r) front in
-    let size : length front ≤ 256 = rw (first-quarter, length-take) (omega arith) in
+    let size : length front ≤ quarter = rw (first-quarter, length-take) (omega arith) in
     omega arith
 
 -- All pieces are painted, and what the refresh asked for holds.

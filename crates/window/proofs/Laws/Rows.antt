@@ -9,16 +9,16 @@ use native.Mathlib.Omega.{arith}
 use lib.ListN.{length, take, drop, length-drop, drop-of-length-le}
 use lib.Seq.{take-all, take-add, drop-drop}
 use borrow.Author.Tests.{not-true, not-false, ne-eqb}
-use Rattle.gap.specs.Sequence.{sameBytes, part}
-use Rattle.gap.specs.Nearest.{nearest}
+use Rattle.gap.specs.Rules.Sequence.{sameBytes, part}
+use Rattle.gap.specs.Rules.Nearest.{nearest}
 use Rattle.gap.specs.declared.Search.{Search}
 use Rattle.gap.specs.declared.Search.the-variants.{Reached, Nowhere}
 use Rattle.gap.proofs.Laws.Tests.{clash, cond-false}
 use Rattle.gap.proofs.Laws.Sequence.{same-refl, same-equal}
 use Rattle.gap.proofs.Laws.Nearest.{reached-least, nowhere-none}
 use Rattle.gap.proofs.Laws.Layout.{cut}
-use Rattle.window.specs.Rows.{screenRow, changed, orNone, fromBelow, firstRow, lastRow}
-use Rattle.window.specs.Terminal.{repaint}
+use Rattle.window.specs.Rules.Rows.{screenRow, changed, orNone, fromBelow, firstRow, lastRow}
+use Rattle.window.specs.Rules.Terminal.{repaint}
 
 -- The test of a row tells whether it differs.
 pub unchanged-same : (W : ℕ) (old new : List ℕ) (i : ℕ) → changed W old new i ≡ false → screenRow W i old ≡ screenRow W i new

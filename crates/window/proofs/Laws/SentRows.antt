@@ -8,19 +8,19 @@ use native.Mathlib.Omega.{arith}
 use lib.ListN.{length, drop}
 use lib.Seq.{drop-drop}
 use borrow.Author.Tests.{ne-eqb}
-use Rattle.gap.specs.Sequence.{every, part, patch, counted}
-use Rattle.gap.specs.Layout.{printable}
+use Rattle.gap.specs.Rules.Sequence.{every, part, patch, counted}
+use Rattle.gap.specs.Rules.Layout.{printable}
 use Rattle.gap.proofs.Laws.Tests.{cond-false}
 use Rattle.gap.proofs.Laws.Sequence.{every-take, every-drop, length-part}
 use Rattle.gap.proofs.Laws.Runs.{length-patch, patch-none}
 use Rattle.gap.proofs.Laws.Patches.{patch-behind}
-use Rattle.window.specs.Window.{joined}
-use Rattle.window.specs.Rows.{screenRow}
-use Rattle.window.specs.Terminal.{repaint}
-use Rattle.window.specs.Sequences.{placed, sentRow, namedRows, sentRows}
-use Rattle.window.specs.Machine.{Machine, cells, feed}
+use Rattle.window.specs.Rules.Window.{joined}
+use Rattle.window.specs.Rules.Rows.{screenRow}
+use Rattle.window.specs.Rules.Terminal.{repaint}
+use Rattle.window.specs.Rules.Sequences.{sentSpot, sentRow, rowCount, sentRows}
+use Rattle.window.specs.Rules.Machine.{Machine, cells, machine, feed}
 use Rattle.window.proofs.Laws.Rows.{run-split}
-use Rattle.window.proofs.Laws.Machine.{machine, within-most, feed-append, feed-place, feed-run}
+use Rattle.window.proofs.Laws.Machine.{within-most, feed-append, feed-spot, feed-run}
 
 -- What the machine shows after a run of bytes, and that it reads cells again; where it stands does not matter.
 pub record Shows (m : Machine) (s : List ℕ) : Type 0 where
@@ -59,8 +59,8 @@ module _ (H W : ℕ) (screen : List ℕ) (wide : 1 ≤ W) (long : length screen 
       let above : suc a - 1 ≡ a = omega arith in
       let here : (suc a - 1) * W + (1 - 1) ≡ a * W = omega (arith, ap (λ n. n * W) above) in
       let cells-long : length row ≡ W = row-long a fits in
-      feed-append H W (placed (suc a) 1) row m
-      ∙ (ap (feed H W row) (feed-place H W (suc a) 1 m (omega arith) (omega arith) (omega arith) wide ready)
+      feed-append H W (sentSpot (suc a) 1) row m
+      ∙ (ap (feed H W row) (feed-spot H W (suc a) 1 m (omega arith) (omega arith) (omega arith) wide ready)
       ∙ (feed-run H W (suc a) row (m .shows) 1 (omega arith) wide (omega arith) (omega (arith, room a 1 fits)) (part-printed ((suc a - 1) * W) W)
       ∙ ap₂ (λ at j. machine (patch at row (m .shows)) (suc a) j) here (within-most W (1 + length row) (omega arith))))
 
@@ -110,5 +110,5 @@ module _ (H W : ℕ) (screen : List ℕ) (wide : 1 ≤ W) (long : length screen 
   unfolding feed sentRows repaint joined counted
   feed-rows zero last m ordered fits size ready = record { bytes = refl; ready = ready }
   feed-rows (suc a) last m ordered fits size ready =
-      let rows : namedRows (suc a) last ≡ suc last - suc a = cond-false _ _ (ne-eqb (suc a) 0 (omega arith)) in
+      let rows : rowCount (suc a) last ≡ suc last - suc a = cond-false _ _ (ne-eqb (suc a) 0 (omega arith)) in
       rw (rows, repaint-patched a last (m .shows) ordered fits) (rows-sent (suc last - suc a) a m (omega arith) size ready)

@@ -6,16 +6,15 @@ use Prim.Native.Nat.{ℕ, _-_, _≤_}
 use native.Mathlib.Omega.{arith}
 use lib.Dec.{eqb}
 use borrow.Author.Tests.{le-leb, eq-eqb}
-use Rattle.gap.specs.Doc.{Doc}
+use Rattle.gap.specs.Rules.Doc.{Doc}
 use Rattle.gap.proofs.Laws.Tests.{and-both, or-right}
 use Rattle.window.specs.Words.{Frame}
-use Rattle.window.specs.Window.{virtual, rowOf, columnOf, visible}
-use Rattle.window.specs.Rows.{changed, firstRow, lastRow}
-use Rattle.window.specs.Terminal.{View, picture}
-use Rattle.window.specs.Painting.{rowsOn, cursorOn, paintable}
+use Rattle.window.specs.Rules.Window.{virtual, rowOf, columnOf, visible}
+use Rattle.window.specs.Rules.Rows.{changed, firstRow, lastRow}
+use Rattle.window.specs.Rules.Terminal.{View, picture, Good}
+use Rattle.window.specs.Rules.Sending.{rowsOn, cursorOn, sendable}
 use Rattle.window.proofs.Laws.Window.{length-window, visible-says}
 use Rattle.window.proofs.Laws.Rows.{Named, nothing, run, named}
-use Rattle.window.proofs.Laws.Views.{Good}
 
 -- A cursor that is visible is on the screen.
 cursor-on : (f : Frame) (d : Doc) → visible f d ≡ true → cursorOn (f .h) (f .w) (rowOf d - f .r) (columnOf d - f .c) ≡ true
@@ -46,9 +45,9 @@ cursorRow v = rowOf (virtual (v .plain)) - v .frame .r
 abbrev pub cursorColumn : View → ℕ
 cursorColumn v = columnOf (virtual (v .plain)) - v .frame .c
 
-pub view-paintable : (size : ℕ) (v : View) → Good size v → (first last : ℕ) → rowsOn (v .frame .h) first last ≡ true
-    → paintable (v .frame .h) (v .frame .w) first last (cursorRow v) (cursorColumn v) (picture v) ≡ true
-unfolding paintable
-view-paintable size v good first last rows =
+pub view-sendable : (size : ℕ) (v : View) → Good size v → (first last : ℕ) → rowsOn (v .frame .h) first last ≡ true
+    → sendable (v .frame .h) (v .frame .w) first last (cursorRow v) (cursorColumn v) (picture v) ≡ true
+unfolding sendable
+view-sendable size v good first last rows =
     and-both (and-both (good .tabled) (eq-eqb _ _ (length-window (v .frame) (virtual (v .plain)))))
     (and-both rows (cursor-on (v .frame) (virtual (v .plain)) (good .seen)))

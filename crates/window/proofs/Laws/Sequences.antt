@@ -10,35 +10,35 @@ use lib.Dec.{eqb}
 use lib.ListN.{length, length-append}
 use borrow.Rule.Slice.PartMut.{midOf}
 use borrow.Author.Tests.{eqb-true, eqb-false, eq-eqb, ne-eqb}
-use Rattle.gap.specs.Sequence.{part, counted}
-use Rattle.gap.specs.Decimal.{decimal}
-use Rattle.gap.specs.Written.{Wrote}
+use Rattle.gap.specs.Rules.Sequence.{part, counted}
+use Rattle.gap.specs.Rules.Decimal.{decimal}
+use Rattle.gap.specs.Wording.Written.{Wrote}
 use Rattle.gap.proofs.Laws.Tests.{decided, cond-true, cond-false}
 use Rattle.gap.proofs.Laws.Sequence.{length-part}
 use Rattle.gap.proofs.Laws.Decimals.{decimal-within, decimal-short}
 use Rattle.gap.proofs.Laws.Writers.{wrote-none, then, wrote-length}
-use Rattle.window.specs.Window.{joined}
-use Rattle.window.specs.Rows.{screenRow}
-use Rattle.window.specs.Sequences.{placed, sentRow, namedRows, sentRows, sentColumn, painted}
-use Rattle.window.specs.Writing.{RowsIn, rowsSize, paintedSize}
+use Rattle.window.specs.Rules.Window.{joined}
+use Rattle.window.specs.Rules.Rows.{screenRow}
+use Rattle.window.specs.Rules.Sequences.{sentSpot, sentRow, rowCount, sentRows, sentColumn, sentScreen}
+use Rattle.window.specs.Wording.Writing.{RowsIn, rowsSize, sentSize}
 
--- ---- A place
+-- ---- A spot
 
 -- It has four bytes beside its two numbers.
-pub length-placed : (row column : ℕ) → length (placed row column) ≡ 4 + length (decimal row) + length (decimal column)
-unfolding placed
-length-placed row column = simp length-append (omega arith)
+pub length-spot : (row column : ℕ) → length (sentSpot row column) ≡ 4 + length (decimal row) + length (decimal column)
+unfolding sentSpot
+length-spot row column = simp length-append (omega arith)
 
 -- Machine words have at most 20 digits each, a row of a screen 2 and a column 3.
-pub place-short : (row column : ℕ) → row < 2 ^ 64 → column < 2 ^ 64 → length (placed row column) ≤ 44
-place-short row column rows columns = omega (arith, length-placed row column, decimal-short row rows, decimal-short column columns)
+pub spot-short : (row column : ℕ) → row < 2 ^ 64 → column < 2 ^ 64 → length (sentSpot row column) ≤ 44
+spot-short row column rows columns = omega (arith, length-spot row column, decimal-short row rows, decimal-short column columns)
 
-pub row-place-short : (i : ℕ) → i ≤ 64 → length (placed i 1) ≤ 7
-row-place-short i few = omega (arith, length-placed i 1, decimal-within i 1 (omega arith), decimal-within 1 0 (omega arith))
+pub row-spot-short : (i : ℕ) → i ≤ 64 → length (sentSpot i 1) ≤ 7
+row-spot-short i few = omega (arith, length-spot i 1, decimal-within i 1 (omega arith), decimal-within 1 0 (omega arith))
 
-pub cursor-place-short : (row column : ℕ) → row ≤ 64 → column ≤ 256 → length (placed row column) ≤ 9
-cursor-place-short row column rows columns =
-    omega (arith, length-placed row column, decimal-within row 1 (omega arith), decimal-within column 2 (omega arith))
+pub cursor-spot-short : (row column : ℕ) → row ≤ 64 → column ≤ 256 → length (sentSpot row column) ≤ 9
+cursor-spot-short row column rows columns =
+    omega (arith, length-spot row column, decimal-within row 1 (omega arith), decimal-within column 2 (omega arith))
 
 -- ---- A row
 
@@ -51,7 +51,7 @@ module _ (W above : ℕ) (screen : List ℕ) (inside : above * W + W ≤ length 
   row-length : length (screenRow W (above + 1) screen) ≡ W
   row-length = rw row-cells (length-part (above * W) W screen inside)
 
-  length-sent : length (sentRow W screen (above + 1)) ≡ length (placed (above + 1) 1) + W
+  length-sent : length (sentRow W screen (above + 1)) ≡ length (sentSpot (above + 1) 1) + W
   unfolding sentRow
   length-sent = rw (length-append, row-length)
 
@@ -60,25 +60,25 @@ module _ (W above : ℕ) (screen : List ℕ) (inside : above * W + W ≤ length 
   unfolding part
   row-lent = let size : above * W + W - above * W ≡ W = omega arith in rw (row-cells, size)
 
-  -- A room for the row has room for its place, and then for its cells.
-  pub place-room : (at : ℕ) {room : ℕ} → at + length (sentRow W screen (above + 1)) ≤ room → at + length (placed (above + 1) 1) ≤ room
-  place-room at room = omega (arith, length-sent)
+  -- A room for the row has room for its spot, and then for its cells.
+  pub spot-room : (at : ℕ) {room : ℕ} → at + length (sentRow W screen (above + 1)) ≤ room → at + length (sentSpot (above + 1) 1) ≤ room
+  spot-room at room = omega (arith, length-sent)
 
   pub cells-room : {at cells-at : ℕ} {old mid : List ℕ} → at + length (sentRow W screen (above + 1)) ≤ length old
-      → Wrote at (placed (above + 1) 1) old cells-at mid → cells-at + length (midOf (above * W) (above * W + W - above * W) screen) ≤ length mid
-  cells-room room place-is = rw row-lent (omega (arith, row-length, length-sent, place-is .place, wrote-length place-is))
+      → Wrote at (sentSpot (above + 1) 1) old cells-at mid → cells-at + length (midOf (above * W) (above * W + W - above * W) screen) ≤ length mid
+  cells-room room spot-is = rw row-lent (omega (arith, row-length, length-sent, spot-is .place, wrote-length spot-is))
 
-  -- The place and then the cells are the row.
-  pub row-wrote : {at cells-at next : ℕ} {old mid new : List ℕ} → Wrote at (placed (above + 1) 1) old cells-at mid
+  -- The spot and then the cells are the row.
+  pub row-wrote : {at cells-at next : ℕ} {old mid new : List ℕ} → Wrote at (sentSpot (above + 1) 1) old cells-at mid
       → Wrote cells-at (midOf (above * W) (above * W + W - above * W) screen) mid next new → Wrote at (sentRow W screen (above + 1)) old next new
   unfolding sentRow
-  row-wrote place-is cells-are = then place-is (rw row-lent at cells-are)
+  row-wrote spot-is cells-are = then spot-is (rw row-lent at cells-are)
 
 -- ---- How many rows
 
 -- None are named, or those from the first to the last.
 count : (first last : ℕ)
-    → ((first ≡ 0) × (namedRows first last ≡ 0)) ⊎ ((0 < first) × (namedRows first last ≡ suc last - first))
+    → ((first ≡ 0) × (rowCount first last ≡ 0)) ⊎ ((0 < first) × (rowCount first last ≡ suc last - first))
 count first last =
     ⊎-elim
     (λ yes-it-is. inl (eqb-true first 0 yes-it-is, cond-true 0 (suc last - first) yes-it-is))
@@ -86,20 +86,20 @@ count first last =
     (decided (eqb first 0))
 
 module _ (first last : ℕ) where
-  pub named-none : first ≡ 0 → 0 ≡ namedRows first last
+  pub named-none : first ≡ 0 → 0 ≡ rowCount first last
   named-none none = sym (cond-true 0 (suc last - first) (eq-eqb first 0 none))
 
-  pub named-some : ¬ (first ≡ 0) → last + 1 - first ≡ namedRows first last
+  pub named-some : ¬ (first ≡ 0) → last + 1 - first ≡ rowCount first last
   named-some some = rw add-one (sym (cond-false 0 (suc last - first) (ne-eqb first 0 some)))
 
-  pub named-most : namedRows first last ≤ last
+  pub named-most : rowCount first last ≤ last
   named-most = ⊎-elim (λ none. omega arith) (λ some. omega arith) (count first last)
 
-  pub named-row : {rows i : ℕ} → rows ≡ namedRows first last → i < rows → (0 < first + i) × (first + i ≤ last)
+  pub named-row : {rows i : ℕ} → rows ≡ rowCount first last → i < rows → (0 < first + i) × (first + i ≤ last)
   named-row named more = ⊎-elim (λ none. omega arith) (λ some. omega arith) (count first last)
 
 -- Each of them is a row of the screen, with fewer than 64 above it.
-module _ {W first last : ℕ} {screen : List ℕ} (within : RowsIn W first last screen) {rows i : ℕ} (named : rows ≡ namedRows first last) (more : i < rows) where
+module _ {W first last : ℕ} {screen : List ℕ} (within : RowsIn W first last screen) {rows i : ℕ} (named : rows ≡ rowCount first last) (more : i < rows) where
   pub some-first : 1 ≤ first
   some-first = ⊎-elim (λ none. omega arith) (λ some. some .0) (count first last)
 
@@ -120,8 +120,8 @@ module _ (row : ℕ → List ℕ) where
   unfolding joined counted
   joined-last zero k = rw (append-nil, add-zero)
   joined-last (suc n) k =
-      let place : suc k + n ≡ k + suc n = omega arith in
-      rw (joined-last n (suc k), append-assoc, place)
+      let further : suc k + n ≡ k + suc n = omega arith in
+      rw (joined-last n (suc k), append-assoc, further)
 
   joined-longer : (m n k : ℕ) → m ≤ n → length (joined (map row (counted m k))) ≤ length (joined (map row (counted n k)))
   unfolding joined counted
@@ -162,19 +162,19 @@ module _ {W first rows at i next : ℕ} {screen old new : List ℕ} (sent : Rows
 -- ---- How long they are
 
 -- One row more is as much longer.
-size-last : (W n k : ℕ) → rowsSize W (suc n) k ≡ rowsSize W n k + (length (placed (k + n) 1) + W)
+size-last : (W n k : ℕ) → rowsSize W (suc n) k ≡ rowsSize W n k + (length (sentSpot (k + n) 1) + W)
 unfolding rowsSize
 size-last W zero k = rw (add-zero k) (omega arith)
 size-last W (suc n) k =
-    let place : suc k + n ≡ k + suc n = omega arith in
-    rw place at (ap (λ size. (length (placed k 1) + W) + size) (size-last W n (suc k))) ∙ omega arith
+    let further : suc k + n ≡ k + suc n = omega arith in
+    rw further at (ap (λ size. (length (sentSpot k 1) + W) + size) (size-last W n (suc k))) ∙ omega arith
 
--- No row's place takes more than 7 bytes.
+-- No row's spot takes more than 7 bytes.
 size-most : (W n k : ℕ) → k + n ≤ 65 → rowsSize W n k ≤ n * (W + 7)
 unfolding rowsSize
 size-most W zero k few = omega arith
 size-most W (suc n) k few =
-    omega (arith, row-place-short k (omega arith), size-most W n (suc k) (omega arith), suc-mul n (W + 7))
+    omega (arith, row-spot-short k (omega arith), size-most W n (suc k) (omega arith), suc-mul n (W + 7))
 
 -- What is counted without a look at the screen is how long the rows are.
 length-rows : (W last n k : ℕ) (screen : List ℕ) → last * W ≤ length screen → 0 < k → k + n ≤ suc last
@@ -188,46 +188,46 @@ length-rows W last (suc n) (suc a) screen inside some few =
     rw (length-append, rw add-one at row, length-rows W last n (suc (suc a)) screen inside (omega arith) (omega arith))
 
 pub length-named : {W first last : ℕ} {screen : List ℕ} → RowsIn W first last screen
-    → length (sentRows W first last screen) ≡ rowsSize W (namedRows first last) first
+    → length (sentRows W first last screen) ≡ rowsSize W (rowCount first last) first
 unfolding sentRows joined counted rowsSize
 length-named {W} {first} {last} {screen} rows =
     ⊎-elim
     (λ none. rw (none .1))
-    (λ some. length-rows W last (namedRows first last) first screen (rows .inside) (some .0) (omega (arith, some .1, rows .ordered)))
+    (λ some. length-rows W last (rowCount first last) first screen (rows .inside) (some .0) (omega (arith, some .1, rows .ordered)))
     (count first last)
 
 -- The size that is counted beforehand is the length of the bytes.
-pub painted-size : {W first last : ℕ} (row column : ℕ) {screen : List ℕ} → RowsIn W first last screen
-    → length (painted W first last row column screen) ≡ paintedSize W first last row column
-unfolding painted paintedSize
-painted-size row column rows = rw (length-append, length-named rows)
+pub sent-size : {W first last : ℕ} (row column : ℕ) {screen : List ℕ} → RowsIn W first last screen
+    → length (sentScreen W first last row column screen) ≡ sentSize W first last row column
+unfolding sentScreen sentSize
+sent-size row column rows = rw (length-append, length-named rows)
 
 -- A screen has at most 64 rows of 256 cells, so that no sum on the way to the size can wrap.
-module _ (W first last : ℕ) (ordered : first ≤ last) (few : last ≤ 64) {rows : ℕ} (named : rows ≡ namedRows first last) where
+module _ (W first last : ℕ) (ordered : first ≤ last) (few : last ≤ 64) {rows : ℕ} (named : rows ≡ rowCount first last) where
   pub rows-most : (n : ℕ) → n ≤ rows → rowsSize W n first ≤ n * (W + 7)
   rows-most n most = size-most W n first (⊎-elim (λ none. omega arith) (λ some. omega arith) (count first last))
 
-  pub place-small : {i place : ℕ} → i < rows → place ≡ length (placed (first + i) 1) → place ≤ 7
-  place-small {i} more placed-so = omega (arith, row-place-short (first + i) (omega (arith, named-row first last named more)))
+  pub spot-small : {i spot : ℕ} → i < rows → spot ≡ length (sentSpot (first + i) 1) → spot ≤ 7
+  spot-small {i} more spot-so = omega (arith, row-spot-short (first + i) (omega (arith, named-row first last named more)))
 
   pub rows-small : (n : ℕ) → n ≤ rows → W ≤ 256 → rowsSize W n first ≤ 16832
   rows-small n most wide =
       let bound : n * (W + 7) ≤ 64 * 263 = mul-le-mul {n₂ = 64} {m₂ = 263} (omega (arith, named-most first last)) (omega arith) in
       omega (arith, rows-most n most)
 
-pub named-small : (W first last : ℕ) → first ≤ last → last ≤ 64 → W ≤ 256 → rowsSize W (namedRows first last) first ≤ 16832
-named-small W first last ordered few wide = rows-small W first last ordered few refl (namedRows first last) (omega arith) wide
+pub named-small : (W first last : ℕ) → first ≤ last → last ≤ 64 → W ≤ 256 → rowsSize W (rowCount first last) first ≤ 16832
+named-small W first last ordered few wide = rows-small W first last ordered few refl (rowCount first last) (omega arith) wide
 
 -- What is counted in one turn, and what is counted in all.
-pub size-more : (W n k : ℕ) {size place : ℕ} → size ≡ rowsSize W n k → place ≡ length (placed (k + n) 1)
-    → size + (place + W) ≡ rowsSize W (n + 1) k
-size-more W n k sized placed-so = rw (add-one, size-last W n k, sized, placed-so)
+pub size-more : (W n k : ℕ) {size spot : ℕ} → size ≡ rowsSize W n k → spot ≡ length (sentSpot (k + n) 1)
+    → size + (spot + W) ≡ rowsSize W (n + 1) k
+size-more W n k sized spot-so = rw (add-one, size-last W n k, sized, spot-so)
 
 pub size-all : (W k : ℕ) {rows n size : ℕ} → size ≡ rowsSize W n k → n ≤ rows → rows ≤ n → size ≡ rowsSize W rows k
 size-all W k {rows} {n} sized most done = let all : n ≡ rows = omega arith in rw all at sized
 
--- The sizes of the rows and of the cursor's place.
-pub painted-sum : (W first last row column : ℕ) {rows place sent : ℕ} → rows ≡ rowsSize W (namedRows first last) first
-    → place ≡ length (placed row sent) → sent ≡ sentColumn W column → rows + place ≡ paintedSize W first last row column
-unfolding paintedSize
-painted-sum W first last row column rows-so place-so sent-so = rw (rows-so, place-so, sent-so)
+-- The sizes of the rows and of the cursor's spot.
+pub sent-sum : (W first last row column : ℕ) {rows spot sent : ℕ} → rows ≡ rowsSize W (rowCount first last) first
+    → spot ≡ length (sentSpot row sent) → sent ≡ sentColumn W column → rows + spot ≡ sentSize W first last row column
+unfolding sentSize
+sent-sum W first last row column rows-so spot-so sent-so = rw (rows-so, spot-so, sent-so)

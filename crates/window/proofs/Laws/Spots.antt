@@ -11,17 +11,17 @@ use lib.Dec.{leb, ltb}
 use lib.ListN.{take}
 use lib.Seq.{take-take}
 use borrow.Author.Tests.{leb-true, leb-false, lt-ltb, le-ltb, le-leb, lt-leb}
-use Rattle.gap.specs.Sequence.{part}
-use Rattle.gap.specs.Doc.{Doc}
-use Rattle.gap.specs.Lines.{newline, newlines, sinceAfter, since}
-use Rattle.gap.specs.Layout.{ungap}
+use Rattle.gap.specs.Rules.Sequence.{part}
+use Rattle.gap.specs.Rules.Doc.{Doc}
+use Rattle.gap.specs.Rules.Lines.{newline, newlines, sinceAfter, since}
+use Rattle.gap.specs.Rules.Layout.{ungap}
 use Rattle.gap.proofs.Laws.Tests.{decided}
 use Rattle.gap.proofs.Laws.Lines.{newlines-append, since-append}
-use Rattle.editor.specs.Bytes.{quarter, quarterOf}
+use Rattle.editor.specs.Rules.Bytes.{quarter, quarterOf}
 use Rattle.window.specs.Words.{Lengths, Main, Quoted, Frame}
 use Rattle.window.specs.declared.Spot.{Spot}
-use Rattle.window.specs.Window.{virtualIn, visible, policy, policyRow, policyColumn}
-use Rattle.window.specs.Calls.{spotIn, visibleAt, policyAt, virtualHeld}
+use Rattle.window.specs.Rules.Window.{virtualIn, visible, policy, policyRow, policyColumn}
+use Rattle.window.specs.Wording.Calls.{spotIn, visibleAt, policyAt, virtualHeld}
 
 -- At a document's own spot, visibility and policy are those of the definitions.
 pub visible-spot : (f : Frame) (d : Doc) → visibleAt f (spotIn d) ≡ visible f d

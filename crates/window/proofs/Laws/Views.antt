@@ -10,16 +10,15 @@ use borrow.Author.Tests.{leb-true, eqb-true, eq-eqb}
 use Rattle.gap.proofs.Laws.Tests.{and-left, and-right, and-both, cond-true}
 use Rattle.gap.proofs.Laws.Layout.{length-gapped}
 use Rattle.editor.specs.declared.Key.{Key}
-use Rattle.editor.specs.Plain.{Outcome, refused, done}
-use Rattle.editor.specs.Keys.{key}
-use Rattle.editor.specs.Bytes.{Stores, quarter, sized, storesOf, editorOk}
-use Rattle.editor.proofs.Laws.Sound.{SoundPlain}
+use Rattle.editor.specs.Rules.Plain.{Outcome, refused, done}
+use Rattle.editor.specs.Rules.Keys.{key}
+use Rattle.editor.specs.Rules.Bytes.{Stores, quarter, sized, storesOf, editorOk}
 use Rattle.editor.proofs.Theorems.Layouts.{plain-of-encoded, encoded-sized, encoded-ok, session-encoded}
 use Rattle.editor.proofs.Theorems.Sessions.{key-keeps}
 use Rattle.window.specs.Words.{Session}
-use Rattle.window.specs.Window.{virtual, visible, policy}
-use Rattle.window.specs.Core.{Lent, T, rowsAndColumns, tabled, isSession, held, sessionOf, finished, keyed}
-use Rattle.window.specs.Terminal.{View, looked}
+use Rattle.window.specs.Rules.Window.{virtual, visible, policy}
+use Rattle.window.specs.Rules.Core.{Lent, T, rowsAndColumns, tabled, isSession, held, finished, keyed}
+use Rattle.window.specs.Rules.Terminal.{View, looked, Good, recordOf, storesWith}
 use Rattle.window.proofs.Laws.Window.{policy-visible}
 
 -- What the test of sizes tells.
@@ -49,21 +48,6 @@ tabled-facts H W b e =
       frame = frame;
       long = eqb-true _ _ (and-right (rowsAndColumns H W) _ others);
     }
-
--- A good view: a sound plain state for stores of length size, and a tabled window that shows its cursor.
-pub record Good (size : ℕ) (v : View) : Type 0 where
-  pub low : 1 ≤ size
-  pub high : size ≤ 65536
-  pub sound : SoundPlain size quarter (v .plain)
-  pub tabled : rowsAndColumns (v .frame .h) (v .frame .w) ≡ true
-  pub seen : visible (v .frame) (virtual (v .plain)) ≡ true
-
--- A view as record and stores, with any screen.
-abbrev pub recordOf : View → Session
-recordOf v = sessionOf (v .plain) (v .frame)
-
-abbrev pub storesWith : ℕ → View → List ℕ → Lent
-storesWith size v screen = record { stores = storesOf size quarter (v .plain); screen = screen }
 
 module _ (size : ℕ) (v : View) (good : Good size v) (screen : List ℕ) (long : length screen ≡ v .frame .h * v .frame .w) where
   -- It holds the plain state again, its stores are as tabled, and it is a session.

@@ -9,16 +9,16 @@ use lib.Dec.{leb, ltb}
 use lib.ListN.{length, getD, length-append, length-map, List·getD-append}
 use lib.Seq.{getD-append-add}
 use borrow.Author.Tests.{ltb-true, ltb-false, leb-true, leb-false, lt-ltb, le-ltb, le-leb, lt-leb}
-use Rattle.gap.specs.Sequence.{every, counted}
-use Rattle.gap.specs.Doc.{Doc, content}
-use Rattle.gap.specs.Lines.{lines}
-use Rattle.gap.specs.Layout.{printable, allowed}
+use Rattle.gap.specs.Rules.Sequence.{every, counted}
+use Rattle.gap.specs.Rules.Doc.{Doc, content}
+use Rattle.gap.specs.Rules.Lines.{lines}
+use Rattle.gap.specs.Rules.Layout.{printable, allowed}
 use Rattle.gap.proofs.Laws.Tests.{and-left, and-right, and-both}
 use Rattle.gap.proofs.Laws.Lines.{lines-every}
 use Rattle.gap.proofs.Laws.Sequence.{every-both, every-left, every-right, length-counted, every-or, every-map, at-counted-map}
 use Rattle.window.specs.Words.{Mode, Main, Quoted, Frame}
-use Rattle.window.specs.Window.{virtualIn, rowOf, columnOf, cell, rowCells, joined, window, visible}
-use Rattle.window.specs.Window.{policyRow, policyColumn, policy}
+use Rattle.window.specs.Rules.Window.{virtualIn, rowOf, columnOf, cell, rowCells, joined, window, visible}
+use Rattle.window.specs.Rules.Window.{policyRow, policyColumn, policy}
 
 -- Rows of one width, put together: their length, and what stands in row i, column j, both counted from 0.
 module _ (row : ℕ → List ℕ) (w : ℕ) (wide : (i : ℕ) → length (row i) ≡ w) where

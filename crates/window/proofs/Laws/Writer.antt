@@ -5,13 +5,13 @@ use Prim.Native.Nat.{ℕ, _+_, _≤_}
 use native.Mathlib.Omega.{arith}
 use lib.ListN.{length, length-append}
 use denote.Ref.{now, at-last}
-use Rattle.gap.specs.Sequence.{patch}
-use Rattle.gap.specs.Written.{Wrote}
+use Rattle.gap.specs.Rules.Sequence.{patch}
+use Rattle.gap.specs.Wording.Written.{Wrote}
 use Rattle.gap.proofs.Laws.Writers.{then, wrote-length}
 use Rattle.window.specs.declared.writer.Writer.{Writer}
-use Rattle.window.specs.Writing.{filled}
+use Rattle.window.specs.Wording.Writing.{filled}
 
--- The buffer as it was left and the place that was answered make the filled writer.
+-- The buffer as it was left and the index that was answered make the filled writer.
 pub wrote-filled : (w : Writer) (run : List ℕ) {next : ℕ} {new : List ℕ} → Wrote (w .at) run (now (w .out)) next new
     → record { out = at-last (w .out) new; at = next } ≡ filled w run
 wrote-filled w run wrote i = record { out = at-last (w .out) (wrote .bytes i); at = wrote .place i }

@@ -5,22 +5,24 @@ use mathlib.Core.Bool.{true}
 use mathlib.Core.List.{List, [], _∷_}
 use Prim.Native.Nat.{ℕ}
 use lib.ListN.{take}
-use Rattle.gap.specs.Sequence.{every}
-use Rattle.gap.specs.Layout.{printable}
+use Rattle.gap.specs.Rules.Sequence.{every}
+use Rattle.gap.specs.Rules.Layout.{printable}
 use Rattle.editor.specs.declared.Key.{Key}
-use Rattle.editor.specs.Plain.{Outcome, refused, done, opening}
-use Rattle.editor.specs.Keys.{key, keys, after}
-use Rattle.editor.specs.Bytes.{quarter}
+use Rattle.editor.specs.Rules.Plain.{Outcome, refused, done, opening}
+use Rattle.editor.specs.Rules.Keys.{key, keys, after}
+use Rattle.editor.specs.Rules.Bytes.{quarter}
 use Rattle.window.specs.Words.{Session}
-use Rattle.window.specs.Window.{virtual, window, policy}
-use Rattle.window.specs.Core.{Lent, T, tabled, held, isSession, lentOf, openedText, opened, finished, shown, keyed}
-use Rattle.window.specs.Terminal.{Bench, View, openedBench, openingView, given, repaint, struck, typed, looked, viewed, picture}
+use Rattle.window.specs.Rules.Window.{virtual, window, policy}
+use Rattle.window.specs.Rules.Core.{Lent, T, tabled, held, isSession, lentOf, openedText, opened, finished, shown, keyed}
+use Rattle.window.specs.Rules.Rows.{Shortest}
+use Rattle.window.specs.Rules.Terminal.{Bench, View, openedBench, openingView, given, repaint, struck, typed, looked, viewed, picture}
+use Rattle.window.specs.Rules.Terminal.{Good, recordOf, storesWith, Showing}
 use Rattle.window.proofs.Laws.Window.{length-window, window-printable, virtual-allowed}
 use Rattle.window.proofs.Laws.Rows.{repainted}
-use Rattle.window.proofs.Laws.Views.{tabled-facts, Good, recordOf, storesWith, view-keyed, view-size, looked-good}
+use Rattle.window.proofs.Laws.Views.{tabled-facts, view-keyed, view-size, looked-good}
 use Rattle.window.proofs.Theorems.Refusals.{opening-done}
 use Rattle.window.proofs.Theorems.Sessions.{opening-view, session-keyed}
-use Rattle.window.proofs.Theorems.NamedRows.{Shortest, unchanged-shortest, named-rows}
+use Rattle.window.proofs.Theorems.NamedRows.{unchanged-shortest, named-rows}
 
 looked-after : (v : View) (o : Outcome) → looked v o .plain ≡ after (v .plain) o
 looked-after v (refused n) = refl
@@ -31,12 +33,6 @@ pub picture-printable : (size : ℕ) (v : View) → Good size v → every printa
 picture-printable size v good =
     window-printable (v .frame) (virtual (v .plain))
     (virtual-allowed (v .plain .mode) (v .plain .main .text) (v .plain .quoted .text) (good .sound .text .bytes) (good .sound .quotation .bytes))
-
--- Record, stores and terminal all hold the view: the terminal shows its window.
-pub record Showing (size : ℕ) (v : View) (at : Bench) : Type 0 where
-  pub session : at .called .session ≡ recordOf v
-  pub lent : at .called .lent ≡ storesWith size v (picture v)
-  pub terminal : at .terminal ≡ picture v
 
 -- Repainting with no named rows changes nothing; with those of an accepted key it shows the new window.
 outcome-showing : (size : ℕ) (v : View) → Good size v → (o : Outcome)

@@ -9,13 +9,13 @@ use lib.Dec.{eqb}
 use lib.ListN.{length, take, drop, getD, length-append}
 use lib.Seq.{take-at, getD-at}
 use borrow.Author.Tests.{eqb-true, eqb-false}
-use Rattle.gap.specs.Doc.{Doc, content}
-use Rattle.gap.specs.Lines.{newlines, lines}
+use Rattle.gap.specs.Rules.Doc.{Doc, content}
+use Rattle.gap.specs.Rules.Lines.{newlines, lines}
 use Rattle.gap.proofs.Laws.Lines.{firstLine, laterLines, lastLine, earlierLines, length-lines, length-earlier, length-last}
 use Rattle.gap.proofs.Laws.Lines.{lines-first, lines-append, cursor-line-exists, cursor-line-reaches}
 use Rattle.gap.proofs.Theorems.Flatten.{flatten, Lines, lines-are-lines, flatten-lines, lines-flatten}
 use Rattle.window.specs.Words.{Frame}
-use Rattle.window.specs.Window.{rowOf, columnOf, window, visible, policy}
+use Rattle.window.specs.Rules.Window.{rowOf, columnOf, window, visible, policy}
 use Rattle.window.proofs.Laws.Window.{window-cell, Visible, visible-says, says-visible, policy-visible, policy-keeps}
 
 -- 001, DISP: the lines above the cursor's line, what stands left and right of the cursor, and the lines below.

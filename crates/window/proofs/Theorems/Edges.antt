@@ -1,20 +1,25 @@
 -- The definitions give each edge that document 01 marks with P, through opening and keys on bytes.
 use mathlib.Core.Path.{_≡_, refl}
 use mathlib.Core.Bool.{true}
-use Rattle.gap.specs.Sequence.{every, sameBytes, begins, part, zeros, counted}
-use Rattle.gap.specs.Strings.{bytes}
-use Rattle.gap.specs.Doc.{move, delete, times, passed, removed, splice}
-use Rattle.gap.specs.Nearest.{nearest, distance}
-use Rattle.gap.specs.Lines.{newlines, sinceAfter, lines}
-use Rattle.gap.specs.Layout.{gapped, paired, ungap, unpair, soundGap, soundPair}
-use Rattle.editor.specs.Places.{lineBeginning, lineEnding, word, documentEnd, isAt}
-use Rattle.editor.specs.Keys.{soundKey, inserted, carried, function, recalled, onSide, quoted, withPattern, searched, found, withReplacement, exchanged, substituted, replaced, pressed, fits, bounded, key}
-use Rattle.editor.specs.Bytes.{quarter, sized, plainOf, lengthsOf, storesOf, editorOk}
-use Rattle.window.specs.Window.{virtualIn, rowCells, joined, window, visible, policy}
-use Rattle.window.specs.Rows.{firstRow, lastRow}
-use Rattle.window.specs.Core.{tabled, isSession, openedText, opened, shown, finished, keyed}
-use Rattle.window.specs.Table.{markedAfter, pressing, moving, outcome, holds, allHold, right, edges}
+use Rattle.gap.specs.Rules.Sequence.{every, sameBytes, begins, part, zeros, counted}
+use Rattle.gap.specs.Rules.Strings.{bytes}
+use Rattle.gap.specs.Rules.Doc.{move, delete, times, passed, removed, splice}
+use Rattle.gap.specs.Rules.Nearest.{nearest, distance}
+use Rattle.gap.specs.Rules.Lines.{newlines, sinceAfter, lines}
+use Rattle.gap.specs.Rules.Layout.{gapped, paired, ungap, unpair, soundGap, soundPair}
+use Rattle.editor.specs.Rules.Places.{lineBeginning, lineEnding, word, documentEnd, isAt}
+use Rattle.editor.specs.Rules.Keys.{soundKey, inserted, carried, function, recalled, onSide, quoted, withPattern, searched, found}
+use Rattle.editor.specs.Rules.Keys.{withReplacement, exchanged, substituted, replaced, pressed, fits, bounded, key}
+use Rattle.editor.specs.Rules.Bytes.{quarter, sized, plainOf, lengthsOf, storesOf, editorOk}
+use Rattle.window.specs.Rules.Window.{virtualIn, rowCells, joined, window, visible, policy}
+use Rattle.window.specs.Rules.Rows.{firstRow, lastRow}
+use Rattle.window.specs.Rules.Core.{tabled, isSession, openedText, opened, shown, finished, keyed}
+use Rattle.window.specs.Tables.Table.{markedAfter, pressing, moving, outcome, holds, allHold, right, edges}
 
 pub edges-right : right edges ≡ true
-unfolding every sameBytes begins part zeros counted move delete times passed splice nearest distance newlines sinceAfter lines gapped paired ungap unpair soundGap soundPair lineBeginning lineEnding word documentEnd isAt soundKey inserted removed carried function recalled onSide quoted withPattern searched found withReplacement exchanged substituted replaced pressed fits bounded key quarter sized plainOf lengthsOf storesOf editorOk virtualIn rowCells joined window visible policy firstRow lastRow tabled isSession openedText opened shown finished keyed bytes markedAfter pressing moving outcome holds allHold right
+unfolding every sameBytes begins part zeros counted move delete times passed splice nearest distance newlines sinceAfter lines gapped paired
+    ungap unpair soundGap soundPair lineBeginning lineEnding word documentEnd isAt soundKey inserted removed carried function recalled
+    onSide quoted withPattern searched found withReplacement exchanged substituted replaced pressed fits bounded key quarter sized plainOf
+    lengthsOf storesOf editorOk virtualIn rowCells joined window visible policy firstRow lastRow tabled isSession openedText opened shown
+    finished keyed bytes markedAfter pressing moving outcome holds allHold right
 edges-right = refl

@@ -9,53 +9,54 @@ use lib.ListN.{length, take}
 use borrow.Author.Tests.{le-leb}
 use Rattle.gap.proofs.Laws.Tests.{cond-true}
 use Rattle.editor.specs.declared.Key.{Key}
-use Rattle.editor.specs.Plain.{Plain, Outcome, refused, done, SIZE, opening}
-use Rattle.editor.specs.Keys.{soundKey, pressed, fits, bounded, key, keys}
-use Rattle.editor.specs.Bytes.{quarter}
+use Rattle.editor.specs.Rules.Refusals.{SIZE}
+use Rattle.editor.specs.Rules.Plain.{Plain, Outcome, refused, done, opening}
+use Rattle.editor.specs.Rules.Keys.{soundKey, pressed, fits, bounded, key, keys}
+use Rattle.editor.specs.Rules.Bytes.{quarter}
 use Rattle.window.specs.Words.{Session}
-use Rattle.window.specs.Window.{policy}
-use Rattle.window.specs.Core.{Lent, Called, T, lentOf, openedText, opened, finished, shown, keyed}
-use Rattle.window.specs.Terminal.{View, openingView, repaint, looked, viewed, picture}
-use Rattle.window.specs.Sequences.{sentColumn, painted}
-use Rattle.window.specs.Painting.{PaintOutcome, rowsOn, paintable, unpainted, painting}
-use Rattle.window.specs.Machine.{Machine, cells, feed, Line, bytesAfter, sent, openedLine, struckLine, typedLine, showing, enough}
+use Rattle.window.specs.Rules.Window.{policy}
+use Rattle.window.specs.Rules.Core.{Lent, Called, T, lentOf, openedText, opened, finished, shown, keyed}
+use Rattle.window.specs.Rules.Terminal.{View, openingView, repaint, looked, viewed, picture, Good, recordOf, storesWith}
+use Rattle.window.specs.Rules.Sequences.{sentColumn, sentScreen}
+use Rattle.window.specs.Rules.Sending.{SendOutcome, rowsOn, sendable, unsent, sending}
+use Rattle.window.specs.Rules.Machine.{Machine, cells, machine, feed, Line, bytesAfter, received, openedLine, struckLine, typedLine, showing, enough}
+use Rattle.window.specs.Rules.Machine.{OnLine, Ready}
 use Rattle.window.proofs.Laws.Window.{length-window}
 use Rattle.window.proofs.Laws.Rows.{repainted, repaint-all}
-use Rattle.window.proofs.Laws.Views.{tabled-facts, some-rows, Good, recordOf, storesWith, viewOf, session-view, view-keyed, view-size, looked-good}
-use Rattle.window.proofs.Laws.Machine.{machine}
-use Rattle.window.proofs.Laws.SentScreen.{painted-shown}
-use Rattle.window.proofs.Laws.PaintCall.{enough-room}
-use Rattle.window.proofs.Laws.SentViews.{cursorRow, cursorColumn, changed-on, every-on, view-paintable}
+use Rattle.window.proofs.Laws.Views.{tabled-facts, some-rows, viewOf, session-view, view-keyed, view-size, looked-good}
+use Rattle.window.proofs.Laws.SentScreen.{sent-shown}
+use Rattle.window.proofs.Laws.SendCall.{enough-room}
+use Rattle.window.proofs.Laws.SentViews.{cursorRow, cursorColumn, changed-on, every-on, view-sendable}
 use Rattle.window.proofs.Theorems.Refusals.{opening-done, opening-leaves, key-accepted, key-leaves}
 use Rattle.window.proofs.Theorems.Sessions.{opening-view, session-keyed}
 use Rattle.window.proofs.Theorems.DemandThree.{picture-printable, key-good, viewed-plain}
-use Rattle.window.proofs.Theorems.Painting.{painting-accepted, painting-writes}
+use Rattle.window.proofs.Theorems.Sending.{sending-accepted, sending-writes}
 
 -- ---- What the routine gives after a call
 
 -- After a refusal it is asked for a cursor in row 0, and so it writes nothing.
 off-screen : (H W first last column : ℕ) (screen buffer : List ℕ)
-    → painting H W first last 0 column screen buffer ≡ unpainted SIZE 0 buffer
-unfolding painting paintable
+    → sending H W first last 0 column screen buffer ≡ unsent SIZE 0 buffer
+unfolding sending sendable
 off-screen H W first last column screen buffer = rw (and-false (rowsOn H first last), and-false)
 
 -- A good view, some of its rows named, and a buffer with enough room.
 module _ (size : ℕ) (v : View) (good : Good size v) (first last : ℕ) (rows : rowsOn (v .frame .h) first last ≡ true)
     (buffer : List ℕ) (room : enough (v .frame .h) (v .frame .w) ≤ length buffer) where
   abbrev run : List ℕ
-  run = painted (v .frame .w) first last (cursorRow v) (cursorColumn v) (picture v)
+  run = sentScreen (v .frame .w) first last (cursorRow v) (cursorColumn v) (picture v)
 
-  abbrev answer : PaintOutcome
-  answer = painting (v .frame .h) (v .frame .w) first last (cursorRow v) (cursorColumn v) (picture v) buffer
+  abbrev answer : SendOutcome
+  answer = sending (v .frame .h) (v .frame .w) first last (cursorRow v) (cursorColumn v) (picture v) buffer
 
-  fit : paintable (v .frame .h) (v .frame .w) first last (cursorRow v) (cursorColumn v) (picture v) ≡ true
-  fit = view-paintable size v good first last rows
+  fit : sendable (v .frame .h) (v .frame .w) first last (cursorRow v) (cursorColumn v) (picture v) ≡ true
+  fit = view-sendable size v good first last rows
 
   view-sent : answer .code ≡ 0
   view-sent =
       let short : length run ≤ length buffer =
       omega (arith, enough-room (v .frame .h) (v .frame .w) first last (cursorRow v) (cursorColumn v) (picture v) fit) in
-      painting-accepted (v .frame .h) (v .frame .w) first last (cursorRow v) (cursorColumn v) (picture v) buffer .1
+      sending-accepted (v .frame .h) (v .frame .w) first last (cursorRow v) (cursorColumn v) (picture v) buffer .1
       (fit, (picture-printable size v good, (le-leb (length run) (length buffer) short, tt)))
 
   -- The terminal reads it.
@@ -63,11 +64,11 @@ module _ (size : ℕ) (v : View) (good : Good size v) (first last : ℕ) (rows :
       → feed (v .frame .h) (v .frame .w) (take (answer .count) (answer .buffer)) m
       ≡ machine (repaint (v .frame .w) first last (picture v) (m .shows)) (cursorRow v) (sentColumn (v .frame .w) (cursorColumn v))
   view-fed m long ready =
-      ap (λ run. feed (v .frame .h) (v .frame .w) run m) (painting-writes _ _ _ _ _ _ _ _ view-sent .front)
-      ∙ painted-shown _ _ _ _ _ _ _ fit (picture-printable size v good) m long ready
+      ap (λ run. feed (v .frame .h) (v .frame .w) run m) (sending-writes _ _ _ _ _ _ _ _ view-sent .front)
+      ∙ sent-shown _ _ _ _ _ _ _ fit (picture-printable size v good) m long ready
 
   view-buffer : length (answer .buffer) ≡ length buffer
-  view-buffer = painting-writes _ _ _ _ _ _ _ _ view-sent .long
+  view-buffer = sending-writes _ _ _ _ _ _ _ _ view-sent .long
 
 -- ---- The routine after each call: never refused where the call was accepted, and nothing written where it was refused
 
@@ -110,21 +111,21 @@ module _ (s : Session) (k : Key) (b : Lent) (accepts : keyed s k b .answer .code
     -- One key on any session, from a terminal that showed the screen as it was: it shows the new screen, with the cursor as reported.
     pub key-shown : (m : Machine) → m .shows ≡ b .screen → m .reading ≡ cells
         → let o = keyed s k b in
-        sent o (bytesAfter o buffer) m .terminal ≡ machine (o .lent .screen) (o .answer .row) (sentColumn (s .frame .w) (o .answer .column))
+        received o (bytesAfter o buffer) m .terminal ≡ machine (o .lent .screen) (o .answer .row) (sentColumn (s .frame .w) (o .answer .column))
     unfolding finished shown policy
     key-shown m same ready =
         let next = looked before outcome in
         let long : length (b .screen) ≡ s .frame .h * s .frame .w = tabled-facts _ _ b (key-accepted s k b .0 accepts .0) .long in
         let rows = changed-on (s .frame .h) (s .frame .w) (b .screen) (picture next) in
         subst⁻¹
-        (λ o. sent o (bytesAfter o buffer) m .terminal ≡ machine (o .lent .screen) (o .answer .row) (sentColumn (s .frame .w) (o .answer .column)))
+        (λ o. received o (bytesAfter o buffer) m .terminal ≡ machine (o .lent .screen) (o .answer .row) (sentColumn (s .frame .w) (o .answer .column)))
         key-outcome
         (view-fed (T (b .stores)) next next-good _ _ rows buffer room m (ap length same ∙ long) ready
         ∙ ap (λ x. machine x (cursorRow next) (sentColumn (s .frame .w) (cursorColumn next)))
         (ap (repaint (s .frame .w) _ _ (picture next)) same ∙ repainted (s .frame .h) (s .frame .w) (b .screen) (picture next) long (length-window _ _)))
 
 module _ (s : Session) (k : Key) (b : Lent) (buffer : List ℕ) where
-  pub key-unsent : (keyed s k b .answer .code ≡ 0 → ⊥) → bytesAfter (keyed s k b) buffer ≡ unpainted SIZE 0 buffer
+  pub key-unsent : (keyed s k b .answer .code ≡ 0 → ⊥) → bytesAfter (keyed s k b) buffer ≡ unsent SIZE 0 buffer
   key-unsent bad = ap (λ o. bytesAfter o buffer) (key-leaves s k b bad) ∙ off-screen _ _ _ _ _ _ buffer
 
 module _ (n H W : ℕ) (b : Lent) (buffer : List ℕ) where
@@ -135,20 +136,13 @@ module _ (n H W : ℕ) (b : Lent) (buffer : List ℕ) where
       ap (λ o. bytesAfter o buffer .code) (opening-done n H W b accepts)
       ∙ view-sent (T (b .stores)) (openingView n H W b) good 1 H (every-on H (some-rows H W (good .tabled))) buffer room
 
-  pub opening-unsent : (opened n H W b .answer .code ≡ 0 → ⊥) → bytesAfter (opened n H W b) buffer ≡ unpainted SIZE 0 buffer
+  pub opening-unsent : (opened n H W b .answer .code ≡ 0 → ⊥) → bytesAfter (opened n H W b) buffer ≡ unsent SIZE 0 buffer
   opening-unsent bad = ap (λ o. bytesAfter o buffer) (opening-leaves n H W b bad) ∙ off-screen _ _ _ _ _ _ buffer
 
 -- ---- Keys on a line
 
--- Record, stores and terminal all hold the view, and the buffer has room.
-pub record OnLine (size : ℕ) (v : View) (at : Line) : Type 0 where
-  pub session : at .called .session ≡ recordOf v
-  pub lent : at .called .lent ≡ storesWith size v (picture v)
-  pub room : enough (v .frame .h) (v .frame .w) ≤ length (at .buffer)
-  pub terminal : at .terminal ≡ showing v
-
 abbrev lineAfter : Called → List ℕ → Machine → Line
-lineAfter o buffer m = sent o (bytesAfter o buffer) m
+lineAfter o buffer m = received o (bytesAfter o buffer) m
 
 -- One key, from a good view.
 module _ (size : ℕ) (k : Key) (v : View) (good : Good size v) where
@@ -190,12 +184,6 @@ pub keys-line : (size : ℕ) (ks : List Key) (v : View) (at : Line) → Good siz
 unfolding viewed typedLine
 keys-line size [] v at good on = on
 keys-line size (k ∷ ks) v at good on = keys-line size ks _ (struckLine k at) (key-good size k v good) (key-line size k v good at on)
-
--- What a host brings: a buffer with room, and a terminal of the screen's size, which may show anything and is in no sequence.
-pub record Ready (H W : ℕ) (buffer : List ℕ) (m : Machine) : Type 0 where
-  pub room : enough H W ≤ length buffer
-  pub size : length (m .shows) ≡ H * W
-  pub reading : m .reading ≡ cells
 
 -- After a good open, any list of keys.
 module _ (n H W : ℕ) (b : Lent) (accepts : opened n H W b .answer .code ≡ 0) (buffer : List ℕ) (m : Machine) (ready : Ready H W buffer m) where

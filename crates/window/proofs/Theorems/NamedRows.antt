@@ -1,27 +1,12 @@
 -- The named rows are the shortest run of rows that covers every changed row (01, the window, last paragraph).
 use mathlib.Core.Path.{_≡_, refl, ap}
-use mathlib.Core.Logic.{_↔_, _≢_}
+use mathlib.Core.Logic.{_≢_}
 use mathlib.Core.List.{List}
-use Prim.Native.Nat.{ℕ, zero, suc, _*_, _≤_, _<_}
+use Prim.Native.Nat.{ℕ, zero, suc, _*_, _<_}
 use native.Mathlib.Omega.{arith}
 use lib.ListN.{length}
-use Rattle.window.specs.Rows.{screenRow, changed, firstRow, lastRow}
+use Rattle.window.specs.Rules.Rows.{screenRow, changed, firstRow, lastRow, Shortest}
 use Rattle.window.proofs.Laws.Rows.{unchanged-same, changed-differs, all-agree, Ends, Named, nothing, run, named}
-
--- Every row of a screen of H rows that differs is one of the rows a to b.
-abbrev pub Covers : ℕ → ℕ → List ℕ → List ℕ → ℕ → ℕ → Type 0
-Covers H W old new a b = (i : ℕ) → 1 ≤ i → i ≤ H → screenRow W i old ≢ screenRow W i new → (a ≤ i) × (i ≤ b)
-
-pub record Shortest (H W : ℕ) (old new : List ℕ) (first last : ℕ) : Type 0 where
-  -- No row is named exactly when nothing changed.
-  pub no-first : (first ≡ 0) ↔ (old ≡ new)
-  pub no-last : (last ≡ 0) ↔ (old ≡ new)
-  -- Where something changed, the named rows are a run of the screen's rows,
-  pub rows : old ≢ new → (1 ≤ first) × (first ≤ last) × (last ≤ H)
-  -- every changed row is among them,
-  pub covers : Covers H W old new first last
-  -- and each run that covers every changed row begins no later and ends no earlier.
-  pub shortest : old ≢ new → (a b : ℕ) → Covers H W old new a b → (a ≤ first) × (last ≤ b)
 
 module _ (H W : ℕ) (old new : List ℕ) where
   pub unchanged-shortest : old ≡ new → Shortest H W old new 0 0

@@ -3,9 +3,9 @@ use mathlib.Core.Path.{_≡_, sym, _∙_}
 use mathlib.Core.List.{List}
 use Prim.Native.Nat.{ℕ}
 use Rattle.window.specs.Words.{Key, Session}
-use Rattle.window.specs.Core.{Lent, Called}
-use Rattle.window.specs.Painting.{PaintOutcome}
-use Rattle.window.specs.Promise.{OpenPromise, KeyPromise, PaintPromise}
+use Rattle.window.specs.Rules.Core.{Lent, Called}
+use Rattle.window.specs.Rules.Sending.{SendOutcome}
+use Rattle.window.specs.Wording.Promise.{OpenPromise, KeyPromise, SendPromise}
 
 pub one-opening : (n H W : ℕ) (b : Lent) (o p : Called) → OpenPromise n H W b o → OpenPromise n H W b p → o ≡ p
 one-opening n H W b o p e f = e ∙ sym f
@@ -13,6 +13,6 @@ one-opening n H W b o p e f = e ∙ sym f
 pub one-key : (s : Session) (k : Key) (b : Lent) (o p : Called) → KeyPromise s k b o → KeyPromise s k b p → o ≡ p
 one-key s k b o p e f = e ∙ sym f
 
-pub one-painting : (H W first last row column : ℕ) (screen buffer : List ℕ) (o p : PaintOutcome)
-    → PaintPromise H W first last row column screen buffer o → PaintPromise H W first last row column screen buffer p → o ≡ p
-one-painting H W first last row column screen buffer o p e f = e ∙ sym f
+pub one-sending : (H W first last row column : ℕ) (screen buffer : List ℕ) (o p : SendOutcome)
+    → SendPromise H W first last row column screen buffer o → SendPromise H W first last row column screen buffer p → o ≡ p
+one-sending H W first last row column screen buffer o p e f = e ∙ sym f

@@ -2,25 +2,26 @@
 -- third of the bytes on a line, with what the routine for terminals promises.
 use mathlib.Core.Path.{_≡_, refl, sym, ap, subst, subst⁻¹, _∙_}
 use mathlib.Core.Bool.{true}
-use mathlib.Core.List.{List, [], _∷_}
+use mathlib.Core.List.{List}
 use Prim.Native.Nat.{ℕ}
 use lib.ListN.{take}
 use Rattle.editor.specs.declared.Key.{Key}
-use Rattle.editor.specs.Plain.{opening}
-use Rattle.editor.specs.Keys.{key, keys, after}
-use Rattle.editor.specs.Bytes.{quarter}
+use Rattle.editor.specs.Rules.Plain.{opening}
+use Rattle.editor.specs.Rules.Keys.{key, keys, after}
+use Rattle.editor.specs.Rules.Bytes.{quarter}
 use Rattle.window.specs.Words.{Session}
-use Rattle.window.specs.Core.{Lent, Called, T, tabled, held, isSession, unopened, turnedDown}
-use Rattle.window.specs.Painting.{PaintOutcome, unpainted}
-use Rattle.window.specs.Promise.{OpenPromise, KeyPromise, PaintPromise}
-use Rattle.window.specs.Terminal.{Bench, given, openingView, struck, typed, viewed, picture}
-use Rattle.window.specs.Machine.{Machine, Line, sent, bytesAfter, openedLine, struckLine, typedLine, showing}
+use Rattle.window.specs.Rules.Core.{Lent, Called, T, tabled, held, isSession, unopened, turnedDown}
+use Rattle.window.specs.Rules.Sending.{SendOutcome, unsent}
+use Rattle.window.specs.Wording.Promise.{OpenPromise, KeyPromise, SendPromise, SendAfterPromise}
+use Rattle.window.specs.Wording.Promise.{BenchRun, at-end, press, LineRun, at-rest, strike}
+use Rattle.window.specs.Rules.Rows.{Shortest}
+use Rattle.window.specs.Rules.Terminal.{Bench, given, openingView, struck, typed, viewed, picture}
+use Rattle.window.specs.Rules.Machine.{Machine, Line, received, bytesAfter, openedLine, struckLine, typedLine, showing, Ready}
 use Rattle.window.proofs.Theorems.Refusals.{opening-leaves, key-leaves}
 use Rattle.window.proofs.Theorems.Sessions.{key-follows}
-use Rattle.window.proofs.Theorems.NamedRows.{Shortest}
 use Rattle.window.proofs.Theorems.DemandThree.{demand-three, key-names}
-use Rattle.window.proofs.Theorems.Painting.{painting-leaves}
-use Rattle.window.proofs.Theorems.Line.{Ready, demand-three-line}
+use Rattle.window.proofs.Theorems.Sending.{sending-leaves}
+use Rattle.window.proofs.Theorems.Line.{demand-three-line}
 
 -- Demand 1: a call that is refused has changed no byte, and hands back the record as document 01 says.
 pub opening-refused : (n H W : ℕ) (b : Lent) (o : Called) → OpenPromise n H W b o → (o .answer .code ≡ 0 → ⊥)
@@ -39,19 +40,14 @@ pub key-holds : (s : Session) (k : Key) (b : Lent) (o : Called) → KeyPromise s
     → held (o .session) (o .lent .stores) ≡ after (held s (b .stores)) (key (T (b .stores)) quarter k (held s (b .stores)))
 key-holds s k b o promise fit ok = ap (λ x. held (x .session) (x .lent .stores)) promise ∙ key-follows s k b fit ok .holds
 
--- Demand 3: any run of calls, each handed what the one before gave back, with the terminal given the named rows.
-pub data Run : List Key → Bench → Bench → Type 0 where
-  over : {at : Bench} → Run [] at at
-  press : {k : Key} {ks : List Key} {at end : Bench} (o : Called) → KeyPromise (at .called .session) k (at .called .lent) o
-      → Run ks (given o (at .terminal)) end → Run (k ∷ ks) at end
-
-run-typed : {ks : List Key} {at end : Bench} → Run ks at end → end ≡ typed ks at
+-- Demand 3: any run of calls, with the terminal given the named rows.
+run-typed : {ks : List Key} {at end : Bench} → BenchRun ks at end → end ≡ typed ks at
 unfolding typed struck
-run-typed over = refl
+run-typed at-end = refl
 run-typed (press {ks = ks} {at = at} o promise run) = run-typed run ∙ ap (λ x. typed ks (given x (at .terminal))) promise
 
 module _ (n H W : ℕ) (b : Lent) (o : Called) (promise : OpenPromise n H W b o) (accepts : o .answer .code ≡ 0) where
-  pub terminal-shows : (ks : List Key) (end : Bench) → Run ks (record { called = o; terminal = o .lent .screen }) end
+  pub terminal-shows : (ks : List Key) (end : Bench) → BenchRun ks (record { called = o; terminal = o .lent .screen }) end
       → (end .terminal ≡ picture (viewed (T (b .stores)) ks (openingView n H W b)))
       × (viewed (T (b .stores)) ks (openingView n H W b) .plain ≡ keys (T (b .stores)) quarter ks (opening (take n (b .stores .text))))
   terminal-shows ks end run =
@@ -68,42 +64,30 @@ rows-named s k b o promise fit ok =
     (key-names s k b fit ok)
 
 -- The routine: refused, it has written nothing.
-pub painting-refused : (H W first last row column : ℕ) (screen buffer : List ℕ) (p : PaintOutcome)
-    → PaintPromise H W first last row column screen buffer p → (p .code ≡ 0 → ⊥) → p ≡ unpainted (p .code) (p .place) buffer
-painting-refused H W first last row column screen buffer p promise bad =
-    subst⁻¹ (λ x. (x .code ≡ 0 → ⊥) → x ≡ unpainted (x .code) (x .place) buffer) promise
-    (painting-leaves H W first last row column screen buffer) bad
+pub sending-refused : (H W first last row column : ℕ) (screen buffer : List ℕ) (p : SendOutcome)
+    → SendPromise H W first last row column screen buffer p → (p .code ≡ 0 → ⊥) → p ≡ unsent (p .code) (p .place) buffer
+sending-refused H W first last row column screen buffer p promise bad =
+    subst⁻¹ (λ x. (x .code ≡ 0 → ⊥) → x ≡ unsent (x .code) (x .place) buffer) promise
+    (sending-leaves H W first last row column screen buffer) bad
 
--- What it promises of the bytes for a call's answer.
-abbrev pub SendPromise : Called → List ℕ → PaintOutcome → Type 0
-SendPromise o buffer p =
-    PaintPromise (o .session .frame .h) (o .session .frame .w) (o .answer .first) (o .answer .last) (o .answer .row) (o .answer .column)
-    (o .lent .screen) buffer p
-
--- Demand 3 on a line: any run of calls, each handed what the one before gave back, with the routine after each and its bytes sent.
-pub data LineRun : List Key → Line → Line → Type 0 where
-  at-rest : {at : Line} → LineRun [] at at
-  strike : {k : Key} {ks : List Key} {at end : Line} (o : Called) (p : PaintOutcome)
-      → KeyPromise (at .called .session) k (at .called .lent) o → SendPromise o (at .buffer) p
-      → LineRun ks (sent o p (at .terminal)) end → LineRun (k ∷ ks) at end
-
+-- Demand 3 on a line.
 run-line : {ks : List Key} {at end : Line} → LineRun ks at end → end ≡ typedLine ks at
 unfolding typedLine struckLine
 run-line at-rest = refl
 run-line (strike {ks = ks} {at = at} o p key-promise promise run) =
     run-line run
-    ∙ (ap (λ x. typedLine ks (sent o x (at .terminal))) promise
-    ∙ ap (λ x. typedLine ks (sent x (bytesAfter x (at .buffer)) (at .terminal))) key-promise)
+    ∙ (ap (λ x. typedLine ks (received o x (at .terminal))) promise
+    ∙ ap (λ x. typedLine ks (received x (bytesAfter x (at .buffer)) (at .terminal))) key-promise)
 
 module _ (n H W : ℕ) (b : Lent) (o : Called) (promise : OpenPromise n H W b o) (accepts : o .answer .code ≡ 0) where
-  pub line-shows : (buffer : List ℕ) (p : PaintOutcome) (m : Machine) → SendPromise o buffer p → Ready H W buffer m
-      → (ks : List Key) (end : Line) → LineRun ks (sent o p m) end
+  pub line-shows : (buffer : List ℕ) (p : SendOutcome) (m : Machine) → SendAfterPromise o buffer p → Ready H W buffer m
+      → (ks : List Key) (end : Line) → LineRun ks (received o p m) end
       → (end .terminal ≡ showing (viewed (T (b .stores)) ks (openingView n H W b)))
       × (viewed (T (b .stores)) ks (openingView n H W b) .plain ≡ keys (T (b .stores)) quarter ks (opening (take n (b .stores .text))))
   unfolding openedLine
   line-shows buffer p m send ready ks end run =
       let good = ap (λ x. x .answer .code) (sym promise) ∙ accepts in
-      let start : sent o p m ≡ openedLine n H W b buffer m =
-      ap (λ x. sent o x m) send ∙ ap (λ x. sent x (bytesAfter x buffer) m) promise in
+      let start : received o p m ≡ openedLine n H W b buffer m =
+      ap (λ x. received o x m) send ∙ ap (λ x. received x (bytesAfter x buffer) m) promise in
       let shown = demand-three-line n H W b good buffer m ready ks in
       (ap (λ x. x .terminal) (run-line run ∙ ap (typedLine ks) start) ∙ shown .0, shown .1)

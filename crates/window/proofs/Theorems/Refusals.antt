@@ -9,21 +9,24 @@ use lib.Dec.{leb}
 use lib.ListN.{length, take, getD}
 use lib.Seq.{length-take-le, getD-take}
 use borrow.Author.Tests.{leb-true, not-true, not-false}
+use Rattle.gap.specs.Rules.Checks.{check, firstFailed, Passing}
 use Rattle.gap.specs.declared.Search.{Search}
 use Rattle.gap.specs.declared.Search.the-variants.{Reached, Nowhere}
-use Rattle.gap.specs.Sequence.{every}
-use Rattle.gap.specs.Nearest.{nearest}
-use Rattle.gap.specs.Layout.{allowed}
+use Rattle.gap.specs.Rules.Sequence.{every}
+use Rattle.gap.specs.Rules.Nearest.{nearest}
+use Rattle.gap.specs.Rules.Layout.{allowed}
 use Rattle.gap.proofs.Laws.Tests.{decided, clash}
 use Rattle.gap.proofs.Laws.Sequence.{every-at, at-every}
 use Rattle.gap.proofs.Laws.Nearest.{Least, reached-least, nowhere-none}
 use Rattle.editor.specs.declared.Key.{Key}
-use Rattle.editor.specs.Plain.{Plain, Did, refused, done, SIZE, LONG, TEXT, SESSION, KEY, FULL}
-use Rattle.editor.specs.Keys.{soundKey, pressed, fits, bounded, key}
-use Rattle.editor.specs.Bytes.{quarter}
+use Rattle.editor.specs.Rules.Refusals.{SIZE, LONG, TEXT, SESSION, KEY, FULL}
+use Rattle.editor.specs.Rules.Plain.{Plain, Did, refused, done}
+use Rattle.editor.specs.Rules.Keys.{soundKey, pressed, fits, bounded, key}
+use Rattle.editor.specs.Rules.Bytes.{quarter}
 use Rattle.window.specs.Words.{Session}
-use Rattle.window.specs.Core.{Lent, Called, T, tabled, isSession, held, unopened, openedText, badByte, unlessBad, opened, turnedDown, shown, finished, keyed}
-use Rattle.gap.proofs.Laws.Order.{Check, check, firstFailed, Passing, exactly, accepted-exactly}
+use Rattle.window.specs.Rules.Core.{Lent, Called, T, tabled, isSession, held, unopened, openedText, badByte, unlessBad, opened, turnedDown, shown, finished, keyed}
+use Rattle.window.specs.Rules.Refusals.{openingChecks, keyChecks}
+use Rattle.gap.proofs.Laws.Order.{exactly, accepted-exactly}
 
 -- ---- opening
 
@@ -58,11 +61,6 @@ none-fails test n text h = go (nearest (λ i. not (test (getD text i 0))) n 0) r
         let below : i < n = omega (arith, bytes) in
         let high : i < 0 + n = omega arith in
         ap test (getD-take n text i 0 below) ∙ not-false _ (nowhere-none _ n 0 e i zero-le high)))
-
--- The checks of opening, in order.
-abbrev openingChecks : ℕ → ℕ → ℕ → Lent → List Check
-openingChecks n H W b =
-    check SIZE (tabled H W b) ∷ check LONG (leb n (T (b .stores))) ∷ check TEXT (every allowed (take n (b .stores .text))) ∷ []
 
 -- The last check counts only where the one before it passes.
 last-check : (t u v w : Bool) → (u ≡ true → v ≡ w)
@@ -156,15 +154,6 @@ module _ (n H W : ℕ) (b : Lent) where
 
 -- ---- a key
 
--- The checks of a key, in order; FULL is about the finished texts.
-abbrev keyChecks : Session → Key → Lent → List Check
-keyChecks s k b =
-    check SIZE (tabled (s .frame .h) (s .frame .w) b)
-    ∷ check SESSION (isSession s (b .stores))
-    ∷ check KEY (soundKey k)
-    ∷ check FULL (fits (T (b .stores)) quarter (pressed k (held s (b .stores)) .state))
-    ∷ []
-
 module _ (s : Session) (k : Key) (b : Lent) where
   decision : (t u v w : Bool) → Did Plain → Called
   decision t u v w did =
@@ -216,4 +205,5 @@ module _ (s : Session) (k : Key) (b : Lent) where
   pub key-leaves : (keyed s k b .answer .code ≡ 0 → ⊥) → keyed s k b ≡ turnedDown s b (keyed s k b .answer .code)
   unfolding keyed key bounded decision
   key-leaves bad =
-      decision-leaves (tabled (s .frame .h) (s .frame .w) b) (isSession s (b .stores)) (soundKey k) (fits (T (b .stores)) quarter (pressed k (held s (b .stores)) .state)) (pressed k (held s (b .stores))) bad
+      let did = pressed k (held s (b .stores)) in
+      decision-leaves (tabled (s .frame .h) (s .frame .w) b) (isSession s (b .stores)) (soundKey k) (fits (T (b .stores)) quarter (did .state)) did bad

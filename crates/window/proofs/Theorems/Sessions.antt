@@ -7,18 +7,19 @@ use Prim.Native.Nat.{ℕ, _+_, _≤_}
 use native.Mathlib.Omega.{arith}
 use lib.ListN.{take}
 use borrow.Author.Tests.{leb-true, le-leb}
-use Rattle.gap.specs.Lines.{newlines, sinceAfter}
+use Rattle.gap.specs.Rules.Lines.{newlines, sinceAfter}
 use Rattle.gap.proofs.Laws.Tests.{and-both, cond-true}
 use Rattle.editor.specs.declared.Key.{Key}
-use Rattle.editor.specs.Plain.{Plain, Outcome, refused, done}
-use Rattle.editor.specs.Keys.{key, after}
-use Rattle.editor.specs.Bytes.{quarter}
+use Rattle.editor.specs.Rules.Plain.{Outcome, refused, done}
+use Rattle.editor.specs.Rules.Keys.{key, after}
+use Rattle.editor.specs.Rules.Bytes.{quarter}
 use Rattle.editor.proofs.Theorems.Sessions.{opening-sound}
 use Rattle.window.specs.Words.{Session}
-use Rattle.window.specs.Window.{virtualIn, virtual, visible, policy}
-use Rattle.window.specs.Core.{Lent, Called, T, tabled, isSession, held, start, openedText, opened, shown, finished, keyed}
-use Rattle.window.specs.Terminal.{View, openingView, looked, picture}
-use Rattle.window.proofs.Laws.Views.{tabled-facts, Good, viewOf, session-view, view-held, view-tabled, view-session, looked-good}
+use Rattle.window.specs.Rules.Window.{virtualIn, virtual, visible, policy}
+use Rattle.window.specs.Rules.Core.{Lent, T, tabled, isSession, held, start, openedText, opened, shown, finished, keyed}
+use Rattle.window.specs.Rules.Terminal.{View, openingView, looked, picture, Good}
+use Rattle.window.specs.Wording.Promise.{Follows}
+use Rattle.window.proofs.Laws.Views.{tabled-facts, viewOf, session-view, view-held, view-tabled, view-session, looked-good}
 use Rattle.window.proofs.Theorems.Refusals.{opening-accepted, opening-done}
 use Rattle.window.proofs.Laws.Window.{length-window}
 
@@ -60,12 +61,6 @@ module _ (n H W : ℕ) (b : Lent) (accepts : opened n H W b .answer .code ≡ 0)
   opened-session =
       ap (λ o. isSession (o .session) (o .lent .stores)) (opening-done n H W b accepts)
       ∙ view-session (T (b .stores)) view opening-view (picture view) (length-window _ _)
-
--- What a key on a session leads to: stores as tabled, a session again, holding the plain state p.
-pub record Follows (o : Called) (p : Plain) : Type 0 where
-  pub fit : tabled (o .session .frame .h) (o .session .frame .w) (o .lent) ≡ true
-  pub session : isSession (o .session) (o .lent .stores) ≡ true
-  pub holds : held (o .session) (o .lent .stores) ≡ p
 
 module _ (s : Session) (k : Key) (b : Lent) (fit : tabled (s .frame .h) (s .frame .w) b ≡ true) (ok : isSession s (b .stores) ≡ true) where
   -- On every session the key on bytes is the key on the plain state.

@@ -1,7 +1,7 @@
 -- `print::put_accepted` writes the entries of an accepted call and the rows of its screen, one behind the other.
 use native.Mathlib.Omega.{arith}
 use borrow.Author.Needs.{needs}
-use Rattle.gap.specs.Strings.{bytes}
+use Rattle.gap.specs.Rules.Strings.{bytes}
 use Rattle.bench.proofs.Laws.Printed.{rows-room, accepted-wrote}
 use Rattle.bench.proofs.print.put_accepted.Statement.{statement}
 use Rattle.bench.proofs.print.put_accepted.Tie as tie
@@ -44,8 +44,8 @@ put-two-requires-3 c κs = search needs
 
 put-rows-requires : tie.Need-put-rows-requires
 put-rows-requires c κs =
-    let asked = c .before .before .before .before .before .before .before .before .before .before .before .before .before .before .before .before .before .before .before .before .before .before .before .before .before .before .before .pre in
-    let coded = c .before .before .before .before .before .before .before .before .before .before .before .before .before .before .before .before .before .before .before .before .before .before .put-entry in
+    let asked = (let start : tie.Start = search in start .pre) in
+    let coded = (let after-put-entry : tie.After-put-entry = search in after-put-entry .put-entry) in
     (asked .0 .long, rows-room _ _ (asked .0) (omega (arith, coded .kept .1 .1 .0)))
 
 same-length : tie.Need-same-length
@@ -54,11 +54,10 @@ same-length c = search needs
 returns : tie.Need-returns
 unfolding bytes
 returns c =
-    let cursor = c .before .before .before .before .before .before in
-    let named = cursor .before .before .before .before .before .before in
-    let did = named .before .before .before .before .before .before in
-    let coded = did .before .before .before .before .before .before .before in
-    accepted-wrote _ _ _ _ (did .before .before .bit-of .ensures) (coded .put-entry .ensures .0) (did .put-two .ensures .0)
+    let cursor : tie.After-put-two3 = search in let named : tie.After-put-two2 = search in
+    let did : tie.After-put-two = search in let after-bit-of : tie.After-bit-of = search in
+    let coded : tie.After-put-entry = search in
+    accepted-wrote _ _ _ _ (after-bit-of .bit-of .ensures) (coded .put-entry .ensures .0) (did .put-two .ensures .0)
     (named .put-two2 .ensures .0) (cursor .put-two3 .ensures .0) (c .before .before .put-rows .ensures)
 
 pub put-accepted-spec : {M : Type 1} → statement M

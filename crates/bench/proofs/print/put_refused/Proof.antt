@@ -1,7 +1,7 @@
 -- `print::put_refused` writes the two entries of a refused call.
 use borrow.Author.Needs.{needs}
-use Rattle.gap.specs.Strings.{bytes}
-use Rattle.bench.specs.Print.{refusedBlock}
+use Rattle.gap.specs.Rules.Strings.{bytes}
+use Rattle.bench.specs.Rules.Print.{refusedBlock}
 use Rattle.bench.proofs.print.put_refused.Statement.{statement}
 use Rattle.bench.proofs.print.put_refused.Tie as tie
 

@@ -1,6 +1,6 @@
 -- `print::put_row` writes a row: its word, its cells and a newline, one behind the other.
 use borrow.Author.Needs.{needs}
-use Rattle.gap.specs.Strings.{bytes}
+use Rattle.gap.specs.Rules.Strings.{bytes}
 use Rattle.bench.proofs.Laws.Printed.{row-wrote}
 use Rattle.bench.proofs.print.put_row.Statement.{statement}
 use Rattle.bench.proofs.print.put_row.Tie as tie

@@ -1,7 +1,7 @@
 -- `print::put_script` writes one entry.
 use borrow.Author.Needs.{needs}
-use Rattle.gap.specs.Strings.{bytes}
-use Rattle.bench.specs.Print.{scriptLine}
+use Rattle.gap.specs.Rules.Strings.{bytes}
+use Rattle.bench.specs.Rules.Print.{scriptLine}
 use Rattle.bench.proofs.print.put_script.Statement.{statement}
 use Rattle.bench.proofs.print.put_script.Tie as tie
 

@@ -4,9 +4,9 @@ use mathlib.Core.List.{List}
 use Prim.Native.Nat.{ℕ}
 use borrow.Author.Needs.{needs}
 use borrow.Author.Tests.{not-true, not-false}
-use Rattle.gap.specs.Strings.{bytes}
+use Rattle.gap.specs.Rules.Strings.{bytes}
 use Rattle.gap.proofs.Laws.Tests.{cond-true, cond-false}
-use Rattle.bench.specs.Script.{headingOf}
+use Rattle.bench.specs.Rules.Script.{headingOf}
 use Rattle.gap.proofs.Laws.LinePlaces.{next-inside}
 use Rattle.bench.proofs.Laws.Scripts.{afterColumns, afterStore, afterText}
 use Rattle.bench.proofs.Laws.Scripts.{Behind, behind-none, behind-broken, behind-read, behind-more}

@@ -1,9 +1,9 @@
 -- `script::key_of` meets its contract: a line that begins with `key=` has four bytes, and what stands behind them is lent.
 use borrow.Author.Needs.{needs}
-use Rattle.gap.specs.Strings.{bytes}
+use Rattle.gap.specs.Rules.Strings.{bytes}
 use Rattle.bench.specs.Words.{Unnamed}
-use Rattle.bench.specs.Names.{keyNamed}
-use Rattle.bench.specs.Script.{keyOf}
+use Rattle.bench.specs.Rules.Names.{keyNamed}
+use Rattle.bench.specs.Rules.Script.{keyOf}
 use Rattle.gap.proofs.Laws.Fields.{word-fits, word-none, word-read}
 use Rattle.bench.proofs.script.key_of.Statement.{statement}
 use Rattle.bench.proofs.script.key_of.Tie as tie

@@ -3,10 +3,10 @@ use mathlib.Core.Path.{sym, ap, _∙_}
 use Prim.Native.Nat.{_-_}
 use native.Mathlib.Omega.{arith}
 use borrow.Author.Needs.{needs}
-use Rattle.gap.specs.Sequence.{sameBytes}
+use Rattle.gap.specs.Rules.Sequence.{sameBytes}
 use Rattle.gap.proofs.Laws.Scans.{Scan, scan-start, scan-found, scan-more, scan-none}
 use Rattle.bench.specs.Words.{Named}
-use Rattle.bench.specs.Names.{nameOf, combinationAt, atRow, functionNamed}
+use Rattle.bench.specs.Rules.Names.{nameOf, combinationAt, atRow, functionNamed}
 use Rattle.bench.proofs.table.function_named.Statement.{statement}
 use Rattle.bench.proofs.table.function_named.Tie as tie
 

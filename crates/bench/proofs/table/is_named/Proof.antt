@@ -2,7 +2,7 @@
 use mathlib.Core.Path.{sym, ap, _∙_}
 use lib.Seq.{length-take-le}
 use borrow.Author.Needs.{needs}
-use Rattle.gap.specs.Sequence.{sameBytes}
+use Rattle.gap.specs.Rules.Sequence.{sameBytes}
 use Rattle.bench.proofs.Laws.KeyTable.{name-fits, name-read}
 use Rattle.bench.proofs.table.is_named.Statement.{statement}
 use Rattle.bench.proofs.table.is_named.Tie as tie

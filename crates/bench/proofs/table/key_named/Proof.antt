@@ -1,8 +1,8 @@
 -- `table::key_named` meets its contract: its tests are the definition's, and a name that is a word is computed.
 use mathlib.Core.Path.{sym, _∙_}
 use borrow.Author.Needs.{needs}
-use Rattle.gap.specs.Strings.{bytes}
-use Rattle.bench.specs.Names.{keyNamed}
+use Rattle.gap.specs.Rules.Strings.{bytes}
+use Rattle.bench.specs.Rules.Names.{keyNamed}
 use Rattle.gap.proofs.Laws.Compared.{begins-fits}
 use Rattle.bench.proofs.Laws.KeyNames.{five-words, named-as, named-insert}
 use Rattle.bench.proofs.table.key_named.Statement.{statement}

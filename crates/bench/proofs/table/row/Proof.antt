@@ -1,8 +1,8 @@
 -- `table::row` meets its contract: the constant table is, by computing, the list of the rows that the rule of names makes.
 use borrow.Author.Needs.{needs}
-use Rattle.gap.specs.Sequence.{zeros}
-use Rattle.gap.specs.Strings.{bytes}
-use Rattle.bench.specs.Names.{combinations}
+use Rattle.gap.specs.Rules.Sequence.{zeros}
+use Rattle.gap.specs.Rules.Strings.{bytes}
+use Rattle.bench.specs.Rules.Names.{combinations}
 use Rattle.bench.proofs.Laws.KeyTable.{row-made}
 use Rattle.bench.proofs.table.row.Statement.{statement}
 use Rattle.bench.proofs.table.row.Tie as tie

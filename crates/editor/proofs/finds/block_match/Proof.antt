@@ -7,12 +7,6 @@ use Rattle.editor.proofs.Laws.MatchScans.{block-fits, block-none}
 use Rattle.editor.proofs.finds.block_match.Statement.{statement}
 use Rattle.editor.proofs.finds.block_match.Tie as tie
 
-add-lowest-place : tie.Need-add-lowest-place
-add-lowest-place c = search needs
-
-lowest-place-requires : tie.Need-lowest-place-requires
-lowest-place-requires c κs = search needs
-
 none-likely-requires : tie.Need-none-likely-requires
 none-likely-requires c κs = (block-fits (c .before .before .before .pre .0) (c .lowest-place .ensures), c .before .before .before .pre .1)
 
@@ -22,23 +16,14 @@ returns c =
     let pre = from .before .before .before .pre in
     block-none (pre .0) (from .lowest-place .ensures) _ (pre .1) (c .before .none-likely .ensures) (c .if1 .taken)
 
-add-first-match : tie.Need-add-first-match
-add-first-match c = search needs
-
-first-match-requires : tie.Need-first-match-requires
-first-match-requires c κs = search needs
-
 returns-2 : tie.Need-returns-2
 returns-2 c = row-last (scan-start _ _ _) _ (omega arith) (c .first-match .ensures)
 
 pub block-match-spec : {M : Type 1} → statement M
-block-match-spec =
-    tie.close
-    (tie.spec
-    add-lowest-place
-    lowest-place-requires
-    none-likely-requires
-    returns
-    add-first-match
-    first-match-requires
+block-match-spec = tie.close (tie.spec
+    (λ c. search needs)  -- add-lowest-place
+    (λ c κs. search needs)  -- lowest-place-requires
+    none-likely-requires returns
+    (λ c. search needs)  -- add-first-match
+    (λ c κs. search needs)  -- first-match-requires
     returns-2)

@@ -10,40 +10,19 @@ use Rattle.editor.proofs.Laws.MatchScans.{distance-left, left-reach, le
 use Rattle.editor.proofs.finds.find_left.Statement.{statement}
 use Rattle.editor.proofs.finds.find_left.Tie as tie
 
-first-move-requires : tie.Need-first-move-requires
-first-move-requires c κs = search needs
-
 returns : tie.Need-returns
 returns c =
     c .first-move .ensures _ (begins-empty _ _ (c .before .if1 .taken))
     ∙ distance-left _ _ _ _ (c .before .before .before .before .pre)
 
-match-across-requires : tie.Need-match-across-requires
-match-across-requires c κs = search needs
-
 returns-2 : tie.Need-returns-2
 returns-2 c = c .match-across .ensures ∙ distance-left _ _ _ _ (c .before .before .before .before .before .pre)
-
-match-across-requires-2 : tie.Need-match-across-requires-2
-match-across-requires-2 c κs = search needs
-
-enum-told : tie.Need-enum-told
-enum-told c = search needs
-
-enum-told-2 : tie.Need-enum-told-2
-enum-told-2 c = search needs
 
 returns-3 : tie.Need-returns-3
 returns-3 c =
     let start : tie.Start = search in
     row-found (scan-start _ _ _) _ (omega arith) (c .before .before .match-across2 .ensures) (c .enum-told2 .given .1)
     ∙ distance-left _ _ _ _ (start .pre)
-
-slice-aggregate-nearest-match : tie.Need-slice-aggregate-nearest-match
-slice-aggregate-nearest-match c = sym (length-take-le _ _ (omega arith))
-
-add-nearest-match : tie.Need-add-nearest-match
-add-nearest-match c = search needs
 
 nearest-match-requires : tie.Need-nearest-match-requires
 nearest-match-requires c κs =
@@ -62,18 +41,14 @@ returns-4 c =
     ∙ distance-left _ _ _ _ pre
 
 pub find-left-spec : {M : Type 1} → statement M
-find-left-spec =
-    tie.close
-    (tie.spec
-    first-move-requires
+find-left-spec = tie.close (tie.spec
+    (λ c κs. search needs)  -- first-move-requires
     returns
-    match-across-requires
+    (λ c κs. search needs)  -- match-across-requires
     returns-2
-    match-across-requires-2
-    enum-told
-    enum-told-2
+    (λ c κs. search needs)  -- match-across-requires-2
+    (λ c. search needs) (λ c. search needs)  -- enum-told .. enum-told-2
     returns-3
-    slice-aggregate-nearest-match
-    add-nearest-match
-    nearest-match-requires
-    returns-4)
+    (λ c. sym (length-take-le _ _ (omega arith)))  -- slice-aggregate-nearest-match
+    (λ c. search needs)  -- add-nearest-match
+    nearest-match-requires returns-4)

@@ -4,7 +4,7 @@ use Prim.Native.Nat.{_-_, _≤_}
 use native.Mathlib.Omega.{arith}
 use borrow.Author.Needs.{needs}
 use Rattle.gap.proofs.Laws.Scans.{Scan, scan-start, scan-found, scan-more, scan-none}
-use Rattle.editor.specs.Searches.{matchAway}
+use Rattle.editor.specs.Wording.Searches.{matchAway}
 use Rattle.editor.proofs.Laws.MatchScans.{reach-part}
 use Rattle.editor.proofs.finds.first_match.Statement.{statement}
 use Rattle.editor.proofs.finds.first_match.Tie as tie
@@ -15,9 +15,6 @@ Inv-loop way t from to pattern k d₀ d = (from ≤ d) × Scan (matchAway way pa
 abbrev μ-loop : tie.MeasureT-loop
 μ-loop way t from to pattern k d₀ d = to - d
 
-loop-holds : tie.Need-loop-holds Inv-loop μ-loop
-loop-holds c = (omega arith, scan-start _ _ _)
-
 match-away-requires : tie.Need-match-away-requires Inv-loop μ-loop
 match-away-requires c κs =
     let pre = c .before .before .before .before .pre in
@@ -27,30 +24,16 @@ returns : tie.Need-returns Inv-loop μ-loop
 returns c =
     scan-found _ _ _ _ (c .before .before .before .loop .inv .1) (omega arith) (sym (c .before .match-away .ensures) ∙ c .if1 .taken)
 
-add-d : tie.Need-add-d Inv-loop μ-loop
-add-d c = search needs
-
-loop-less : tie.Need-loop-less Inv-loop μ-loop
-loop-less c = search needs
-
 loop-again : tie.Need-loop-again Inv-loop μ-loop
 loop-again c =
     let turn = c .before .before .before in
     (omega arith, scan-more _ _ _ _ (turn .loop .inv .1) (omega arith) (sym (c .before .match-away .ensures) ∙ c .if1 .left))
 
-returns-2 : tie.Need-returns-2 Inv-loop μ-loop
-returns-2 c = scan-none _ _ _ _ (c .before .loop .inv .1) (omega arith)
-
 pub first-match-spec : {M : Type 1} → statement M
-first-match-spec =
-    tie.close
-    (tie.spec
-    Inv-loop
-    μ-loop
-    loop-holds
-    match-away-requires
-    returns
-    add-d
-    loop-less
+first-match-spec = tie.close (tie.spec Inv-loop μ-loop
+    (λ c. (omega arith, scan-start _ _ _))  -- loop-holds
+    match-away-requires returns
+    (λ c. search needs)  -- add-d
+    (λ c. search needs)  -- loop-less
     loop-again
-    returns-2)
+    (λ c. scan-none _ _ _ _ (c .before .loop .inv .1) (omega arith)))  -- returns-2

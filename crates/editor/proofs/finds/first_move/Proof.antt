@@ -4,11 +4,7 @@ use Rattle.gap.proofs.Laws.Scans.{scan-start, scan-found, scan-none}
 use Rattle.editor.proofs.finds.first_move.Statement.{statement}
 use Rattle.editor.proofs.finds.first_move.Tie as tie
 
-returns : tie.Need-returns
-returns c test e = scan-none _ _ _ _ (scan-start _ _ _) (omega arith)
-
-returns-2 : tie.Need-returns-2
-returns-2 c test e = scan-found _ _ _ _ (scan-start _ _ _) (omega arith) e
-
 pub first-move-spec : {M : Type 1} → statement M
-first-move-spec = tie.close (tie.spec returns returns-2)
+first-move-spec = tie.close (tie.spec
+    (λ c test e. scan-none _ _ _ _ (scan-start _ _ _) (omega arith))  -- returns
+    (λ c test e. scan-found _ _ _ _ (scan-start _ _ _) (omega arith) e))  -- returns-2

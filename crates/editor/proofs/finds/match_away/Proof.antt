@@ -5,9 +5,6 @@ use Rattle.editor.proofs.Laws.MatchScans.{away-fits, away-compared, awa
 use Rattle.editor.proofs.finds.match_away.Statement.{statement}
 use Rattle.editor.proofs.finds.match_away.Tie as tie
 
-lowest-place-requires : tie.Need-lowest-place-requires
-lowest-place-requires c κs = search needs
-
 likely-requires : tie.Need-likely-requires
 likely-requires c κs = (away-fits (c .before .before .before .pre .0) (c .lowest-place .ensures), c .before .before .before .pre .1)
 
@@ -28,11 +25,6 @@ returns-2 c =
     away-unlikely (pre .0) (from .lowest-place .ensures) _ (pre .1) (c .before .likely .ensures) (c .if1 .left)
 
 pub match-away-spec : {M : Type 1} → statement M
-match-away-spec =
-    tie.close
-    (tie.spec
-    lowest-place-requires
-    likely-requires
-    run-begins-requires
-    returns
-    returns-2)
+match-away-spec = tie.close (tie.spec
+    (λ c κs. search needs)  -- lowest-place-requires
+    likely-requires run-begins-requires returns returns-2)

@@ -3,7 +3,7 @@ use Prim.Native.Nat.{_-_, _≤_}
 use native.Mathlib.Omega.{arith}
 use borrow.Author.Needs.{needs}
 use Rattle.gap.proofs.Laws.Scans.{Scan, scan-start}
-use Rattle.editor.specs.Searches.{matchAway}
+use Rattle.editor.specs.Wording.Searches.{matchAway}
 use Rattle.gap.proofs.Laws.RowScans.{row-none, row-found, row-last}
 use Rattle.editor.proofs.Laws.MatchScans.{reach-part}
 use Rattle.editor.proofs.finds.nearest_match.Statement.{statement}
@@ -15,36 +15,15 @@ Inv-loop way t from to pattern k d₀ d = (from ≤ d) × Scan (matchAway way pa
 abbrev μ-loop : tie.MeasureT-loop
 μ-loop way t from to pattern k d₀ d = to - d
 
-telling-requires : tie.Need-telling-requires Inv-loop μ-loop
-telling-requires c κs = search needs
-
-loop-holds : tie.Need-loop-holds Inv-loop μ-loop
-loop-holds c = (omega arith, scan-start _ _ _)
-
-sub-loop : tie.Need-sub-loop Inv-loop μ-loop
-sub-loop c = search needs
-
 block-match-requires : tie.Need-block-match-requires Inv-loop μ-loop
 block-match-requires c κs =
     let known = c .before .before in
     (reach-part (known .before .before .before .pre .0) (omega arith) (omega arith) (omega arith), known .telling .ensures .within)
 
-enum-told : tie.Need-enum-told Inv-loop μ-loop
-enum-told c = search needs
-
-enum-told-2 : tie.Need-enum-told-2 Inv-loop μ-loop
-enum-told-2 c = search needs
-
 returns : tie.Need-returns Inv-loop μ-loop
 returns c =
     let block = c .before .before in
     row-found (block .before .before .loop .inv .1) 32 (omega arith) (block .block-match .ensures) (c .enum-told2 .given .1)
-
-add-d : tie.Need-add-d Inv-loop μ-loop
-add-d c = search needs
-
-loop-less : tie.Need-loop-less Inv-loop μ-loop
-loop-less c = search needs
 
 loop-again : tie.Need-loop-again Inv-loop μ-loop
 loop-again c =
@@ -61,20 +40,13 @@ returns-2 : tie.Need-returns-2 Inv-loop μ-loop
 returns-2 c = row-last (c .before .before .loop .inv .1) _ (omega arith) (c .first-match .ensures)
 
 pub nearest-match-spec : {M : Type 1} → statement M
-nearest-match-spec =
-    tie.close
-    (tie.spec
-    Inv-loop
-    μ-loop
-    telling-requires
-    loop-holds
-    sub-loop
+nearest-match-spec = tie.close (tie.spec Inv-loop μ-loop
+    (λ c κs. search needs)  -- telling-requires
+    (λ c. (omega arith, scan-start _ _ _))  -- loop-holds
+    (λ c. search needs)  -- sub-loop
     block-match-requires
-    enum-told
-    enum-told-2
+    (λ c. search needs) (λ c. search needs)  -- enum-told .. enum-told-2
     returns
-    add-d
-    loop-less
-    loop-again
-    first-match-requires
-    returns-2)
+    (λ c. search needs)  -- add-d
+    (λ c. search needs)  -- loop-less
+    loop-again first-match-requires returns-2)

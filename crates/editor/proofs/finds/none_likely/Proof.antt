@@ -3,9 +3,9 @@ use mathlib.Core.Path.{ap}
 use mathlib.Core.Bool.{not}
 use Prim.Native.Nat.{_-_}
 use borrow.Author.Needs.{needs}
-use Rattle.gap.specs.Sequence.{counted}
+use Rattle.gap.specs.Rules.Sequence.{counted}
 use Rattle.gap.proofs.Laws.Scans.{Tested, tested-start}
-use Rattle.editor.specs.Searches.{likelyAt}
+use Rattle.editor.specs.Wording.Searches.{likelyAt}
 use Rattle.gap.proofs.Laws.RowScans.{numbers-more, numbers-all}
 use Rattle.editor.proofs.finds.none_likely.Statement.{statement}
 use Rattle.editor.proofs.finds.none_likely.Tie as tie
@@ -16,37 +16,15 @@ Inv-loop t at pattern k none₀ i₀ none i = Tested (λ place. not (likelyAt pa
 abbrev μ-loop : tie.MeasureT-loop
 μ-loop t at pattern k none₀ i₀ none i = 32 - i
 
-loop-holds : tie.Need-loop-holds Inv-loop μ-loop
-loop-holds c = tested-start _ _
-
-add-likely : tie.Need-add-likely Inv-loop μ-loop
-add-likely c = search needs
-
-likely-requires : tie.Need-likely-requires Inv-loop μ-loop
-likely-requires c κs = search needs
-
-add-i : tie.Need-add-i Inv-loop μ-loop
-add-i c = search needs
-
-loop-less : tie.Need-loop-less Inv-loop μ-loop
-loop-less c = search needs
-
 loop-again : tie.Need-loop-again Inv-loop μ-loop
 loop-again c = numbers-more _ _ _ (c .before .before .loop .inv) (c .before .loop-test .taken) (ap not (c .likely .ensures))
 
-returns : tie.Need-returns Inv-loop μ-loop
-returns c = numbers-all _ _ _ (c .before .loop .inv) (c .loop-test .left)
-
 pub none-likely-spec : {M : Type 1} → statement M
-none-likely-spec =
-    tie.close
-    (tie.spec
-    Inv-loop
-    μ-loop
-    loop-holds
-    add-likely
-    likely-requires
-    add-i
-    loop-less
+none-likely-spec = tie.close (tie.spec Inv-loop μ-loop
+    (λ c. tested-start _ _)  -- loop-holds
+    (λ c. search needs)  -- add-likely
+    (λ c κs. search needs)  -- likely-requires
+    (λ c. search needs)  -- add-i
+    (λ c. search needs)  -- loop-less
     loop-again
-    returns)
+    (λ c. numbers-all _ _ _ (c .before .loop .inv) (c .loop-test .left)))  -- returns

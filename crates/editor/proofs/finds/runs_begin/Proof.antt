@@ -7,29 +7,8 @@ use Rattle.gap.proofs.Laws.Compared.{begins-front, runs-same, runs-differ}
 use Rattle.editor.proofs.finds.runs_begin.Statement.{statement}
 use Rattle.editor.proofs.finds.runs_begin.Tie as tie
 
-run-begins-requires : tie.Need-run-begins-requires
-run-begins-requires c κs = search needs
-
 returns : tie.Need-returns
 returns c = c .run-begins .ensures ∙ begins-front _ _ _ (c .before .if1 .taken)
-
-slice-aggregate-same-run : tie.Need-slice-aggregate-same-run
-slice-aggregate-same-run c = sym (length-take-le _ _ (omega arith))
-
-same-run-requires : tie.Need-same-run-requires
-same-run-requires c κs = length-take-le _ _ (omega arith)
-
-sub-run-begins : tie.Need-sub-run-begins
-sub-run-begins c = search needs
-
-part-run-begins-start : tie.Need-part-run-begins-start
-part-run-begins-start c = search needs
-
-part-run-begins-end : tie.Need-part-run-begins-end
-part-run-begins-end c = search needs
-
-run-begins-requires-2 : tie.Need-run-begins-requires-2
-run-begins-requires-2 c κs = search needs
 
 returns-2 : tie.Need-returns-2
 returns-2 c =
@@ -46,16 +25,13 @@ returns-3 c =
     runs-differ _ (start .x .now) (start .y .now) (short .if1 .left) (c .before .same-run .ensures) (c .if2 .left)
 
 pub runs-begin-spec : {M : Type 1} → statement M
-runs-begin-spec =
-    tie.close
-    (tie.spec
-    run-begins-requires
+runs-begin-spec = tie.close (tie.spec
+    (λ c κs. search needs)  -- run-begins-requires
     returns
-    slice-aggregate-same-run
-    same-run-requires
-    sub-run-begins
-    part-run-begins-start
-    part-run-begins-end
-    run-begins-requires-2
-    returns-2
-    returns-3)
+    (λ c. sym (length-take-le _ _ (omega arith)))  -- slice-aggregate-same-run
+    (λ c κs. length-take-le _ _ (omega arith))  -- same-run-requires
+    (λ c. search needs)  -- sub-run-begins
+    (λ c. search needs)  -- part-run-begins-start
+    (λ c. search needs)  -- part-run-begins-end
+    (λ c κs. search needs)  -- run-begins-requires-2
+    returns-2 returns-3)

@@ -2,50 +2,27 @@
 use mathlib.Core.Path.{sym, _∙_}
 use borrow.Author.Tests.{not-true, not-false}
 use borrow.Author.Needs.{needs}
-use Rattle.editor.specs.Keys.{key}
+use Rattle.editor.specs.Rules.Keys.{key}
 use Rattle.editor.proofs.keys.press_session.Statement.{statement}
 use Rattle.editor.proofs.keys.press_session.Tie as tie
-
-sound-key-requires : tie.Need-sound-key-requires
-sound-key-requires c κs = search needs
-
-refuse-requires : tie.Need-refuse-requires
-refuse-requires c κs = search needs
 
 returns : tie.Need-returns
 unfolding key
 returns c =
-    let tested = c .before in
-    rw (c .refuse .ensures, sym (tested .before .sound-key .ensures) ∙ not-true _ (tested .if1 .taken))
-
-press-sound-requires : tie.Need-press-sound-requires
-press-sound-requires c κs = search needs
-
-same-length : tie.Need-same-length
-same-length c = search needs
-
-same-length-2 : tie.Need-same-length-2
-same-length-2 c = search needs
-
-same-length-3 : tie.Need-same-length-3
-same-length-3 c = search needs
+    let tested : tie.Then1 = search in let asked : tie.After-sound-key = search in
+    rw (c .unedited .ensures, sym (asked .sound-key .ensures) ∙ not-true _ (tested .if1 .taken))
 
 returns-2 : tie.Need-returns-2
 unfolding key
 returns-2 c =
-    let after = c .before .before .before .before .before .before in
-    let tested = after .before .before .before .before in
-    rw (sym (tested .before .sound-key .ensures) ∙ not-false _ (tested .if1 .left)) (after .press-sound .ensures)
+    let done : tie.After-press-sound = search in let tested : tie.Else1 = search in let asked : tie.After-sound-key = search in
+    rw (sym (asked .sound-key .ensures) ∙ not-false _ (tested .if1 .left)) (done .press-sound .ensures)
 
 pub press-session-spec : {M : Type 1} → statement M
-press-session-spec =
-    tie.close
-    (tie.spec
-    sound-key-requires
-    refuse-requires
+press-session-spec = tie.close (tie.spec
+    (λ c κs. search needs)  -- sound-key-requires
+    (λ c κs. search needs)  -- unedited-requires
     returns
-    press-sound-requires
-    same-length
-    same-length-2
-    same-length-3
+    (λ c κs. search needs)  -- press-sound-requires
+    (λ c. search needs) (λ c. search needs) (λ c. search needs)  -- same-length .. same-length-3
     returns-2)

@@ -1,43 +1,10 @@
 -- `places::stands` meets its contract: each kind of place has its own test.
 use mathlib.Core.Path.{refl}
 use borrow.Author.Needs.{needs}
-use Rattle.editor.specs.Places.{isAt}
+use Rattle.editor.specs.Rules.Places.{isAt}
 use Rattle.editor.proofs.Laws.PlaceScans.{test-known, end-left, end-right}
 use Rattle.editor.proofs.places.stands.Statement.{statement}
 use Rattle.editor.proofs.places.stands.Tie as tie
-
-enum-told : tie.Need-enum-told
-enum-told c = search needs
-
-enum-told-2 : tie.Need-enum-told-2
-enum-told-2 c = search needs
-
-word-at-requires : tie.Need-word-at-requires
-word-at-requires c κs = search needs
-
-enum-told-3 : tie.Need-enum-told-3
-enum-told-3 c = search needs
-
-line-beginning-at-requires : tie.Need-line-beginning-at-requires
-line-beginning-at-requires c κs = search needs
-
-enum-told-4 : tie.Need-enum-told-4
-enum-told-4 c = search needs
-
-line-ending-at-requires : tie.Need-line-ending-at-requires
-line-ending-at-requires c κs = search needs
-
-enum-told-5 : tie.Need-enum-told-5
-enum-told-5 c = search needs
-
-enum-told-6 : tie.Need-enum-told-6
-enum-told-6 c = search needs
-
-enum-told-7 : tie.Need-enum-told-7
-enum-told-7 c = search needs
-
-sub-result : tie.Need-sub-result
-sub-result c = search needs
 
 returns : tie.Need-returns
 unfolding isAt
@@ -66,23 +33,13 @@ returns-6 c =
     (end-right _ _ (c .before .before .before .before .before .pre))
 
 pub stands-spec : {M : Type 1} → statement M
-stands-spec =
-    tie.close
-    (tie.spec
-    enum-told
-    enum-told-2
-    word-at-requires
-    enum-told-3
-    line-beginning-at-requires
-    enum-told-4
-    line-ending-at-requires
-    enum-told-5
-    enum-told-6
-    enum-told-7
-    sub-result
-    returns
-    returns-2
-    returns-3
-    returns-4
-    returns-5
-    returns-6)
+stands-spec = tie.close (tie.spec
+    (λ c. search needs) (λ c. search needs)  -- enum-told .. enum-told-2
+    (λ c κs. search needs)  -- word-at-requires
+    (λ c. search needs)  -- enum-told-3
+    (λ c κs. search needs)  -- line-beginning-at-requires
+    (λ c. search needs)  -- enum-told-4
+    (λ c κs. search needs)  -- line-ending-at-requires
+    (λ c. search needs) (λ c. search needs) (λ c. search needs)  -- enum-told-5 .. enum-told-7
+    (λ c. search needs)  -- sub-result
+    returns returns-2 returns-3 returns-4 returns-5 returns-6)

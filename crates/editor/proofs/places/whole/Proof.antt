@@ -5,11 +5,7 @@ use Rattle.gap.proofs.Laws.Tests.{cond-true, cond-false}
 use Rattle.editor.proofs.places.whole.Statement.{statement}
 use Rattle.editor.proofs.places.whole.Tie as tie
 
-returns : tie.Need-returns
-returns c = sym (cond-false _ _ (lt-leb _ _ (c .if1 .taken)))
-
-returns-2 : tie.Need-returns-2
-returns-2 c = sym (cond-true _ _ (le-leb _ _ (c .if1 .left)))
-
 pub whole-spec : {M : Type 1} → statement M
-whole-spec = tie.close (tie.spec returns returns-2)
+whole-spec = tie.close (tie.spec
+    (λ c. sym (cond-false _ _ (lt-leb _ _ (c .if1 .taken))))  -- returns
+    (λ c. sym (cond-true _ _ (le-leb _ _ (c .if1 .left)))))  -- returns-2

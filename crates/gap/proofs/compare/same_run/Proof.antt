@@ -12,37 +12,14 @@ Inv-loop a b same₀ i₀ same i = Same a b same i
 abbrev μ-loop : tie.MeasureT-loop
 μ-loop a b same₀ i₀ same i = length a - i
 
-loop-holds : tie.Need-loop-holds Inv-loop μ-loop
-loop-holds c = same-start _ _ (c .pre)
-
-shared-slice-read-same : tie.Need-shared-slice-read-same Inv-loop μ-loop
-shared-slice-read-same c = search needs
-
-shared-slice-read-same-2 : tie.Need-shared-slice-read-same-2 Inv-loop μ-loop
-shared-slice-read-same-2 c = search needs
-
-add-i : tie.Need-add-i Inv-loop μ-loop
-add-i c = search needs
-
-loop-less : tie.Need-loop-less Inv-loop μ-loop
-loop-less c = search needs
-
 loop-again : tie.Need-loop-again Inv-loop μ-loop
 loop-again c = same-more (c .before .before .before .loop .inv) (c .before .before .loop-test .taken)
 
-returns : tie.Need-returns Inv-loop μ-loop
-returns c = same-all (c .before .loop .inv) (c .loop-test .left)
-
 pub same-run-spec : {M : Type 1} → statement M
-same-run-spec =
-    tie.close
-    (tie.spec
-    Inv-loop
-    μ-loop
-    loop-holds
-    shared-slice-read-same
-    shared-slice-read-same-2
-    add-i
-    loop-less
+same-run-spec = tie.close (tie.spec Inv-loop μ-loop
+    (λ c. same-start _ _ (c .pre))  -- loop-holds
+    (λ c. search needs) (λ c. search needs)  -- shared-slice-read-same .. shared-slice-read-same-2
+    (λ c. search needs)  -- add-i
+    (λ c. search needs)  -- loop-less
     loop-again
-    returns)
+    (λ c. same-all (c .before .loop .inv) (c .loop-test .left)))  -- returns

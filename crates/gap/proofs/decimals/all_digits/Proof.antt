@@ -3,7 +3,7 @@ use mathlib.Core.Path.{refl}
 use Prim.Native.Nat.{_-_}
 use native.Mathlib.Omega.{arith}
 use lib.ListN.{length}
-use Rattle.gap.specs.Decimal.{digit}
+use Rattle.gap.specs.Rules.Decimal.{digit}
 use Rattle.gap.proofs.Laws.Scans.{Tested, tested-start, tested-more, tested-all}
 use Rattle.gap.proofs.decimals.all_digits.Statement.{statement}
 use Rattle.gap.proofs.decimals.all_digits.Tie as tie
@@ -14,18 +14,6 @@ Inv-loop s ok₀ i₀ ok i = Tested digit s ok i
 abbrev μ-loop : tie.MeasureT-loop
 μ-loop s ok₀ i₀ ok i = length s - i
 
-loop-holds : tie.Need-loop-holds Inv-loop μ-loop
-loop-holds c = tested-start digit _
-
-shared-slice-read-b : tie.Need-shared-slice-read-b Inv-loop μ-loop
-shared-slice-read-b c = omega arith
-
-add-i : tie.Need-add-i Inv-loop μ-loop
-add-i c = omega arith
-
-loop-less : tie.Need-loop-less Inv-loop μ-loop
-loop-less c = omega arith
-
 loop-again : tie.Need-loop-again Inv-loop μ-loop
 loop-again c = tested-more digit _ _ _ (c .before .before .loop .inv) (c .before .loop-test .taken) refl
 
@@ -33,6 +21,9 @@ returns : tie.Need-returns Inv-loop μ-loop
 returns c = tested-all digit _ _ _ (c .before .loop .inv) (c .loop-test .left)
 
 pub all-digits-spec : {M : Type 1} → statement M
-all-digits-spec =
-    tie.close
-    (tie.spec Inv-loop μ-loop loop-holds shared-slice-read-b add-i loop-less loop-again returns)
+all-digits-spec = tie.close (tie.spec Inv-loop μ-loop
+    (λ c. tested-start digit _)  -- loop-holds
+    (λ c. omega arith)  -- shared-slice-read-b
+    (λ c. omega arith)  -- add-i
+    (λ c. omega arith)  -- loop-less
+    loop-again returns)

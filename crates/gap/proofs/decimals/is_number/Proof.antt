@@ -4,21 +4,13 @@ use Rattle.gap.proofs.Laws.Decimals.{number-short, number-long, number-
 use Rattle.gap.proofs.decimals.is_number.Statement.{statement}
 use Rattle.gap.proofs.decimals.is_number.Tie as tie
 
-returns : tie.Need-returns
-returns c = number-short _ _ (c .if1 .taken)
-
-returns-2 : tie.Need-returns-2
-returns-2 c = number-long _ _ (c .if2 .taken)
-
-all-digits-requires : tie.Need-all-digits-requires
-all-digits-requires c κs = search needs
-
-shared-slice-read-result : tie.Need-shared-slice-read-result
-shared-slice-read-result c = search needs
-
 returns-3 : tie.Need-returns-3
 returns-3 c = number-tests _ _ (c .before .before .before .if1 .left) (c .before .before .if2 .left) (c .before .all-digits .ensures)
 
 pub is-number-spec : {M : Type 1} → statement M
-is-number-spec =
-    tie.close (tie.spec returns returns-2 all-digits-requires shared-slice-read-result returns-3)
+is-number-spec = tie.close (tie.spec
+    (λ c. number-short _ _ (c .if1 .taken))  -- returns
+    (λ c. number-long _ _ (c .if2 .taken))  -- returns-2
+    (λ c κs. search needs)  -- all-digits-requires
+    (λ c. search needs)  -- shared-slice-read-result
+    returns-3)

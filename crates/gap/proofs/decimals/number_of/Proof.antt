@@ -7,9 +7,6 @@ use Rattle.gap.proofs.Laws.Decimals.{number-is, number-read, number-unr
 use Rattle.gap.proofs.decimals.number_of.Statement.{statement}
 use Rattle.gap.proofs.decimals.number_of.Tie as tie
 
-is-number-requires : tie.Need-is-number-requires
-is-number-requires c κs = search needs
-
 value-of-requires : tie.Need-value-of-requires
 value-of-requires c κs =
     let is = number-is _ _ (sym (c .before .is-number .ensures) ∙ c .if1 .taken) in
@@ -23,4 +20,6 @@ returns-2 : tie.Need-returns-2
 returns-2 c = number-unread _ _ (sym (c .before .is-number .ensures) ∙ c .if1 .left)
 
 pub number-of-spec : {M : Type 1} → statement M
-number-of-spec = tie.close (tie.spec is-number-requires value-of-requires returns returns-2)
+number-of-spec = tie.close (tie.spec
+    (λ c κs. search needs)  -- is-number-requires
+    value-of-requires returns returns-2)

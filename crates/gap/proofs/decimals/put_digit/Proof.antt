@@ -4,23 +4,11 @@ use Rattle.gap.proofs.Laws.Writers.{wrote-byte}
 use Rattle.gap.proofs.decimals.put_digit.Statement.{statement}
 use Rattle.gap.proofs.decimals.put_digit.Tie as tie
 
-add-out : tie.Need-add-out
-add-out c = search needs
-
-cast-out : tie.Need-cast-out
-cast-out c = search needs
-
-slice-write-out : tie.Need-slice-write-out
-slice-write-out c = search needs
-
-add-result : tie.Need-add-result
-add-result c = search needs
-
-same-length : tie.Need-same-length
-same-length c = search needs
-
-returns : tie.Need-returns
-returns c = wrote-byte _ _ _ (c .pre .1)
-
 pub put-digit-spec : {M : Type 1} → statement M
-put-digit-spec = tie.close (tie.spec add-out cast-out slice-write-out add-result same-length returns)
+put-digit-spec = tie.close (tie.spec
+    (λ c. search needs)  -- add-out
+    (λ c. search needs)  -- cast-out
+    (λ c. search needs)  -- slice-write-out
+    (λ c. search needs)  -- add-result
+    (λ c. search needs)  -- same-length
+    (λ c. wrote-byte _ _ _ (c .pre .1)))  -- returns

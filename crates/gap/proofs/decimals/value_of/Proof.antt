@@ -12,12 +12,6 @@ Inv-loop s n₀ i₀ n i = Valued s n i
 abbrev μ-loop : tie.MeasureT-loop
 μ-loop s n₀ i₀ n i = length s - i
 
-loop-holds : tie.Need-loop-holds Inv-loop μ-loop
-loop-holds c = valued-start (c .pre .0) (c .pre .1)
-
-shared-slice-read-b : tie.Need-shared-slice-read-b Inv-loop μ-loop
-shared-slice-read-b c = omega arith
-
 mul-n : tie.Need-mul-n Inv-loop μ-loop
 mul-n c = omega (arith, valued-fits (c .before .before .loop .inv) (c .before .loop-test .taken))
 
@@ -30,31 +24,15 @@ cast-n c = omega (arith, valued-digit (c .before .before .loop .inv) (c .before 
 add-n : tie.Need-add-n Inv-loop μ-loop
 add-n c = omega (arith, valued-fits (c .before .before .loop .inv) (c .before .loop-test .taken))
 
-add-i : tie.Need-add-i Inv-loop μ-loop
-add-i c = omega arith
-
-loop-less : tie.Need-loop-less Inv-loop μ-loop
-loop-less c = omega arith
-
 loop-again : tie.Need-loop-again Inv-loop μ-loop
 loop-again c = valued-more (c .before .before .loop .inv) (c .before .loop-test .taken)
 
-returns : tie.Need-returns Inv-loop μ-loop
-returns c = valued-all (c .before .loop .inv) (c .loop-test .left)
-
 pub value-of-spec : {M : Type 1} → statement M
-value-of-spec =
-    tie.close
-    (tie.spec
-    Inv-loop
-    μ-loop
-    loop-holds
-    shared-slice-read-b
-    mul-n
-    sub-n
-    cast-n
-    add-n
-    add-i
-    loop-less
+value-of-spec = tie.close (tie.spec Inv-loop μ-loop
+    (λ c. valued-start (c .pre .0) (c .pre .1))  -- loop-holds
+    (λ c. omega arith)  -- shared-slice-read-b
+    mul-n sub-n cast-n add-n
+    (λ c. omega arith)  -- add-i
+    (λ c. omega arith)  -- loop-less
     loop-again
-    returns)
+    (λ c. valued-all (c .before .loop .inv) (c .loop-test .left)))  -- returns

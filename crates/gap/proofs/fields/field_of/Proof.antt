@@ -1,30 +1,15 @@
 -- `fields::field_of` meets its contract: a line that begins with the word is as long, and what stands behind the word is lent.
 use borrow.Author.Needs.{needs}
-use Rattle.gap.specs.Decimal.{numberOf}
+use Rattle.gap.specs.Rules.Decimal.{numberOf}
 use Rattle.gap.specs.declared.Number.the-variants.{Unreadable}
-use Rattle.gap.specs.Fields.{fieldOf}
+use Rattle.gap.specs.Rules.Fields.{fieldOf}
 use Rattle.gap.proofs.Laws.Fields.{word-fits, word-none, word-read}
 use Rattle.gap.proofs.fields.field_of.Statement.{statement}
 use Rattle.gap.proofs.fields.field_of.Tie as tie
 
-begins-with-requires : tie.Need-begins-with-requires
-begins-with-requires c κs = search needs
-
 returns : tie.Need-returns
 unfolding fieldOf
 returns c = word-none _ _ (c .before .begins-with .ensures) (numberOf _) Unreadable (c .if1 .taken)
-
-sub-number-of : tie.Need-sub-number-of
-sub-number-of c = word-fits _ _ (c .before .begins-with .ensures) (c .if1 .left)
-
-part-number-of-start : tie.Need-part-number-of-start
-part-number-of-start c = word-fits _ _ (c .before .begins-with .ensures) (c .if1 .left)
-
-part-number-of-end : tie.Need-part-number-of-end
-part-number-of-end c = search needs
-
-number-of-requires : tie.Need-number-of-requires
-number-of-requires c κs = search needs
 
 returns-2 : tie.Need-returns-2
 unfolding fieldOf
@@ -33,13 +18,11 @@ returns-2 c =
     word-read _ _ (there .before .begins-with .ensures) (numberOf _) Unreadable (there .if1 .left) (c .number-of .ensures)
 
 pub field-of-spec : {M : Type 1} → statement M
-field-of-spec =
-    tie.close
-    (tie.spec
-    begins-with-requires
+field-of-spec = tie.close (tie.spec
+    (λ c κs. search needs)  -- begins-with-requires
     returns
-    sub-number-of
-    part-number-of-start
-    part-number-of-end
-    number-of-requires
+    (λ c. word-fits _ _ (c .before .begins-with .ensures) (c .if1 .left))  -- sub-number-of
+    (λ c. word-fits _ _ (c .before .begins-with .ensures) (c .if1 .left))  -- part-number-of-start
+    (λ c. search needs)  -- part-number-of-end
+    (λ c κs. search needs)  -- number-of-requires
     returns-2)

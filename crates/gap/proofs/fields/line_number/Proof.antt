@@ -7,20 +7,14 @@ use Rattle.gap.proofs.Laws.LinePlaces.{lines-fit, line-numbered}
 use Rattle.gap.proofs.fields.line_number.Statement.{statement}
 use Rattle.gap.proofs.fields.line_number.Tie as tie
 
-slice-aggregate-count-newlines : tie.Need-slice-aggregate-count-newlines
-slice-aggregate-count-newlines c = sym (length-take-le _ _ (c .before .before .pre))
-
-count-newlines-requires : tie.Need-count-newlines-requires
-count-newlines-requires c κs = search needs
-
 add-result : tie.Need-add-result
 add-result c =
     let args = c .before .before .before .args in
     omega (arith, lines-fit (args .s .now) (args .at) (c .count-newlines .ensures))
 
-returns : tie.Need-returns
-returns c = line-numbered _ _ (c .count-newlines .ensures)
-
 pub line-number-spec : {M : Type 1} → statement M
-line-number-spec =
-    tie.close (tie.spec slice-aggregate-count-newlines count-newlines-requires add-result returns)
+line-number-spec = tie.close (tie.spec
+    (λ c. sym (length-take-le _ _ (c .before .before .pre)))  -- slice-aggregate-count-newlines
+    (λ c κs. search needs)  -- count-newlines-requires
+    add-result
+    (λ c. line-numbered _ _ (c .count-newlines .ensures)))  -- returns

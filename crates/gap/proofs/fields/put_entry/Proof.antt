@@ -3,28 +3,19 @@ use native.Mathlib.Omega.{arith}
 use borrow.Author.Needs.{needs}
 use Rattle.gap.proofs.Laws.Writers.{then}
 use Rattle.gap.proofs.Laws.Decimals.{decimal-short}
-use Rattle.gap.specs.Fields.{entry}
+use Rattle.gap.specs.Rules.Fields.{entry}
 use Rattle.gap.proofs.fields.put_entry.Statement.{statement}
 use Rattle.gap.proofs.fields.put_entry.Tie as tie
-
-put-requires : tie.Need-put-requires
-put-requires c κs = search needs
 
 put-decimal-requires : tie.Need-put-decimal-requires
 put-decimal-requires c κs =
     let start : tie.Start = search in
     omega (arith, decimal-short (start .args .n) (search needs))
 
-slice-aggregate-put : tie.Need-slice-aggregate-put
-slice-aggregate-put c = search needs
-
 put-requires-2 : tie.Need-put-requires-2
 put-requires-2 c κs =
     let start : tie.Start = search in
     omega (arith, decimal-short (start .args .n) (search needs))
-
-same-length : tie.Need-same-length
-same-length c = search needs
 
 returns : tie.Need-returns
 unfolding entry
@@ -36,12 +27,10 @@ returns c =
     )
 
 pub put-entry-spec : {M : Type 1} → statement M
-put-entry-spec =
-    tie.close
-    (tie.spec
-    put-requires
+put-entry-spec = tie.close (tie.spec
+    (λ c κs. search needs)  -- put-requires
     put-decimal-requires
-    slice-aggregate-put
+    (λ c. search needs)  -- slice-aggregate-put
     put-requires-2
-    same-length
+    (λ c. search needs)  -- same-length
     returns)

@@ -20,29 +20,14 @@ block : (c : tie.Joined1 Inv-loop μ-loop)
     × (c .before .before .loop .i + c .if1 .size ≤ length (c .before .before .before .before .args .s .now))
 block c = ⊎-elim (λ w. omega arith) (λ w. omega arith) (c .if1 .came)
 
-loop-holds : tie.Need-loop-holds Inv-loop μ-loop
-loop-holds c = counted-start _
-
-sub-size : tie.Need-sub-size Inv-loop μ-loop
-sub-size c = omega arith
-
 add-end : tie.Need-add-end Inv-loop μ-loop
 add-end c = omega (arith, block (c .before))
-
-sub-newlines-short : tie.Need-sub-newlines-short Inv-loop μ-loop
-sub-newlines-short c = omega arith
-
-part-newlines-short-start : tie.Need-part-newlines-short-start Inv-loop μ-loop
-part-newlines-short-start c = omega arith
 
 part-newlines-short-end : tie.Need-part-newlines-short-end Inv-loop μ-loop
 part-newlines-short-end c = omega (arith, block (c .before))
 
 newlines-short-requires : tie.Need-newlines-short-requires Inv-loop μ-loop
 newlines-short-requires c κs = simp length-take (omega (arith, block (c .before .before)))
-
-cast-count : tie.Need-cast-count Inv-loop μ-loop
-cast-count c = search needs
 
 -- The block is counted, so that the new count is within the text's length.
 counted : tie.Need-loop-again Inv-loop μ-loop
@@ -59,24 +44,14 @@ loop-less c = omega (arith, block (c .before .before .before))
 loop-again : tie.Need-loop-again Inv-loop μ-loop
 loop-again = counted
 
-returns : tie.Need-returns Inv-loop μ-loop
-returns c = counted-all _ _ _ (c .before .loop .inv) (c .loop-test .left)
-
 pub count-newlines-spec : {M : Type 1} → statement M
-count-newlines-spec =
-    tie.close
-    (tie.spec
-    Inv-loop
-    μ-loop
-    loop-holds
-    sub-size
+count-newlines-spec = tie.close (tie.spec Inv-loop μ-loop
+    (λ c. counted-start _)  -- loop-holds
+    (λ c. omega arith)  -- sub-size
     add-end
-    sub-newlines-short
-    part-newlines-short-start
-    part-newlines-short-end
-    newlines-short-requires
-    cast-count
-    add-count
-    loop-less
-    loop-again
-    returns)
+    (λ c. omega arith)  -- sub-newlines-short
+    (λ c. omega arith)  -- part-newlines-short-start
+    part-newlines-short-end newlines-short-requires
+    (λ c. search needs)  -- cast-count
+    add-count loop-less loop-again
+    (λ c. counted-all _ _ _ (c .before .loop .inv) (c .loop-test .left)))  -- returns

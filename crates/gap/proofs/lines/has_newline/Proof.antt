@@ -5,7 +5,7 @@ use Prim.Native.Nat.{_-_}
 use native.Mathlib.Omega.{arith}
 use lib.Dec.{eqb}
 use lib.ListN.{length}
-use Rattle.gap.specs.Lines.{newline}
+use Rattle.gap.specs.Rules.Lines.{newline}
 use Rattle.gap.proofs.Laws.Scans.{Tested, tested-start, tested-more, tested-all}
 use Rattle.gap.proofs.lines.has_newline.Statement.{statement}
 use Rattle.gap.proofs.lines.has_newline.Tie as tie
@@ -16,18 +16,6 @@ Inv-loop s none₀ i₀ none i = Tested (λ b. not (eqb b newline)) s none i
 abbrev μ-loop : tie.MeasureT-loop
 μ-loop s none₀ i₀ none i = length s - i
 
-loop-holds : tie.Need-loop-holds Inv-loop μ-loop
-loop-holds c = tested-start _ _
-
-shared-slice-read-none : tie.Need-shared-slice-read-none Inv-loop μ-loop
-shared-slice-read-none c = omega arith
-
-add-i : tie.Need-add-i Inv-loop μ-loop
-add-i c = omega arith
-
-loop-less : tie.Need-loop-less Inv-loop μ-loop
-loop-less c = omega arith
-
 loop-again : tie.Need-loop-again Inv-loop μ-loop
 loop-again c = tested-more _ _ _ _ (c .before .before .loop .inv) (c .before .loop-test .taken) refl
 
@@ -35,6 +23,9 @@ returns : tie.Need-returns Inv-loop μ-loop
 returns c = ap not (tested-all _ _ _ _ (c .before .loop .inv) (c .loop-test .left))
 
 pub has-newline-spec : {M : Type 1} → statement M
-has-newline-spec =
-    tie.close
-    (tie.spec Inv-loop μ-loop loop-holds shared-slice-read-none add-i loop-less loop-again returns)
+has-newline-spec = tie.close (tie.spec Inv-loop μ-loop
+    (λ c. tested-start _ _)  -- loop-holds
+    (λ c. omega arith)  -- shared-slice-read-none
+    (λ c. omega arith)  -- add-i
+    (λ c. omega arith)  -- loop-less
+    loop-again returns)

@@ -13,15 +13,6 @@ Inv-loop s count₀ i₀ count i = Counted s count i
 abbrev μ-loop : tie.MeasureT-loop
 μ-loop s count₀ i₀ count i = length s - i
 
-loop-holds : tie.Need-loop-holds Inv-loop μ-loop
-loop-holds c = counted-start _
-
-shared-slice-read-b : tie.Need-shared-slice-read-b Inv-loop μ-loop
-shared-slice-read-b c = omega arith
-
-cast-count : tie.Need-cast-count Inv-loop μ-loop
-cast-count c = search needs
-
 -- The byte is counted, so that the new count is within the text's length.
 counted : tie.Need-loop-again Inv-loop μ-loop
 counted c = counted-byte _ _ _ (c .before .before .loop .inv) (c .before .loop-test .taken)
@@ -29,29 +20,16 @@ counted c = counted-byte _ _ _ (c .before .before .loop .inv) (c .before .loop-t
 add-count : tie.Need-add-count Inv-loop μ-loop
 add-count c = omega (arith, counted-fit _ _ _ (counted c))
 
-add-i : tie.Need-add-i Inv-loop μ-loop
-add-i c = omega arith
-
-loop-less : tie.Need-loop-less Inv-loop μ-loop
-loop-less c = omega arith
-
 loop-again : tie.Need-loop-again Inv-loop μ-loop
 loop-again = counted
 
-returns : tie.Need-returns Inv-loop μ-loop
-returns c = counted-all _ _ _ (c .before .loop .inv) (c .loop-test .left)
-
 pub newlines-short-spec : {M : Type 1} → statement M
-newlines-short-spec =
-    tie.close
-    (tie.spec
-    Inv-loop
-    μ-loop
-    loop-holds
-    shared-slice-read-b
-    cast-count
+newlines-short-spec = tie.close (tie.spec Inv-loop μ-loop
+    (λ c. counted-start _)  -- loop-holds
+    (λ c. omega arith)  -- shared-slice-read-b
+    (λ c. search needs)  -- cast-count
     add-count
-    add-i
-    loop-less
+    (λ c. omega arith)  -- add-i
+    (λ c. omega arith)  -- loop-less
     loop-again
-    returns)
+    (λ c. counted-all _ _ _ (c .before .loop .inv) (c .loop-test .left)))  -- returns

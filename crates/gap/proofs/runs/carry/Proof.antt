@@ -3,40 +3,16 @@ use mathlib.Core.Path.{refl, sym, ap₂, _∙_}
 use native.Mathlib.Omega.{arith}
 use lib.Seq.{length-take-le}
 use borrow.Author.Needs.{needs}
-use Rattle.gap.specs.Sequence.{patch}
+use Rattle.gap.specs.Rules.Sequence.{patch}
 use Rattle.gap.proofs.Laws.Runs.{part-front}
 use Rattle.gap.proofs.runs.carry.Statement.{statement}
 use Rattle.gap.proofs.runs.carry.Tie as tie
-
-add-end : tie.Need-add-end
-add-end c = search needs
-
-slice-aggregate-copy-front : tie.Need-slice-aggregate-copy-front
-slice-aggregate-copy-front c = search needs
-
-sub-copy-front : tie.Need-sub-copy-front
-sub-copy-front c = search needs
-
-part-copy-front-start : tie.Need-part-copy-front-start
-part-copy-front-start c = search needs
-
-part-copy-front-end : tie.Need-part-copy-front-end
-part-copy-front-end c = search needs
-
-copy-front-requires : tie.Need-copy-front-requires
-copy-front-requires c κs = search needs
-
-array-share-prefix-block : tie.Need-array-share-prefix-block
-array-share-prefix-block c = search needs
 
 slice-aggregate-copy-at : tie.Need-slice-aggregate-copy-at
 slice-aggregate-copy-at c = sym (length-take-le _ _ (omega (arith, c .before .before .before .copy-front .kept)))
 
 copy-at-requires : tie.Need-copy-at-requires
 copy-at-requires c κs = rw (sym (slice-aggregate-copy-at c)) (omega (arith, c .before .before .before .copy-front .kept))
-
-same-length : tie.Need-same-length
-same-length c = search needs
 
 returns : tie.Need-returns
 returns c =
@@ -45,17 +21,14 @@ returns c =
     c .before .before .copy-at .ensures ∙ ap₂ (patch _) (part-front _ _ _ (pre .1 .0) _ _ (copied .copy-front .ensures)) refl
 
 pub carry-spec : {M : Type 1} → statement M
-carry-spec =
-    tie.close
-    (tie.spec
-    add-end
-    slice-aggregate-copy-front
-    sub-copy-front
-    part-copy-front-start
-    part-copy-front-end
-    copy-front-requires
-    array-share-prefix-block
-    slice-aggregate-copy-at
-    copy-at-requires
-    same-length
+carry-spec = tie.close (tie.spec
+    (λ c. search needs)  -- add-end
+    (λ c. search needs)  -- slice-aggregate-copy-front
+    (λ c. search needs)  -- sub-copy-front
+    (λ c. search needs)  -- part-copy-front-start
+    (λ c. search needs)  -- part-copy-front-end
+    (λ c κs. search needs)  -- copy-front-requires
+    (λ c. search needs)  -- array-share-prefix-block
+    slice-aggregate-copy-at copy-at-requires
+    (λ c. search needs)  -- same-length
     returns)

@@ -12,37 +12,12 @@ Inv-loop s₀ i₀ s i = Cleared s₀ i s
 abbrev μ-loop : tie.MeasureT-loop
 μ-loop s₀ i₀ s i = length s₀ - i
 
-loop-holds : tie.Need-loop-holds Inv-loop μ-loop
-loop-holds c = cleared-none _
-
-slice-write-s : tie.Need-slice-write-s Inv-loop μ-loop
-slice-write-s c = omega arith
-
-add-i : tie.Need-add-i Inv-loop μ-loop
-add-i c = omega arith
-
-loop-less : tie.Need-loop-less Inv-loop μ-loop
-loop-less c = omega arith
-
-loop-again : tie.Need-loop-again Inv-loop μ-loop
-loop-again c = cleared-more (c .before .loop .inv) (c .loop-test .taken)
-
-same-length : tie.Need-same-length Inv-loop μ-loop
-same-length c = c .before .loop .inv .same
-
-returns : tie.Need-returns Inv-loop μ-loop
-returns c = cleared-all (c .before .loop .inv) (c .loop-test .left)
-
 pub clear-spec : {M : Type 1} → statement M
-clear-spec =
-    tie.close
-    (tie.spec
-    Inv-loop
-    μ-loop
-    loop-holds
-    slice-write-s
-    add-i
-    loop-less
-    loop-again
-    same-length
-    returns)
+clear-spec = tie.close (tie.spec Inv-loop μ-loop
+    (λ c. cleared-none _)  -- loop-holds
+    (λ c. omega arith)  -- slice-write-s
+    (λ c. omega arith)  -- add-i
+    (λ c. omega arith)  -- loop-less
+    (λ c. cleared-more (c .before .loop .inv) (c .loop-test .taken))  -- loop-again
+    (λ c. c .before .loop .inv .same)  -- same-length
+    (λ c. cleared-all (c .before .loop .inv) (c .loop-test .left)))  -- returns

@@ -5,17 +5,12 @@ use Rattle.gap.proofs.Laws.Runs.{cleared-from}
 use Rattle.gap.proofs.runs.clear_from.Statement.{statement}
 use Rattle.gap.proofs.runs.clear_from.Tie as tie
 
-sub-rest : tie.Need-sub-rest
-sub-rest c = search needs
-
-vacate-requires : tie.Need-vacate-requires
-vacate-requires c κs = search needs
-
-same-length : tie.Need-same-length
-same-length c = search needs
-
 returns : tie.Need-returns
 returns c = c .before .before .vacate .ensures ∙ cleared-from _ _ (c .before .before .before .before .before .pre)
 
 pub clear-from-spec : {M : Type 1} → statement M
-clear-from-spec = tie.close (tie.spec sub-rest vacate-requires same-length returns)
+clear-from-spec = tie.close (tie.spec
+    (λ c. search needs)  -- sub-rest
+    (λ c κs. search needs)  -- vacate-requires
+    (λ c. search needs)  -- same-length
+    returns)

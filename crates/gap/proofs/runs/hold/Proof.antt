@@ -4,15 +4,6 @@ use Rattle.gap.proofs.Laws.Runs.{held}
 use Rattle.gap.proofs.runs.hold.Statement.{statement}
 use Rattle.gap.proofs.runs.hold.Tie as tie
 
-copy-front-requires : tie.Need-copy-front-requires
-copy-front-requires c κs = search needs
-
-clear-from-requires : tie.Need-clear-from-requires
-clear-from-requires c κs = search needs
-
-same-length : tie.Need-same-length
-same-length c = search needs
-
 returns : tie.Need-returns
 returns c =
     let copied = c .before .before .before .before .before .before in
@@ -21,4 +12,8 @@ returns c =
     (c .before .before .clear-from .ensures)
 
 pub hold-spec : {M : Type 1} → statement M
-hold-spec = tie.close (tie.spec copy-front-requires clear-from-requires same-length returns)
+hold-spec = tie.close (tie.spec
+    (λ c κs. search needs)  -- copy-front-requires
+    (λ c κs. search needs)  -- clear-from-requires
+    (λ c. search needs)  -- same-length
+    returns)

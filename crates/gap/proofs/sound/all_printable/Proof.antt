@@ -3,7 +3,7 @@ use Prim.Native.Nat.{_-_}
 use native.Mathlib.Omega.{arith}
 use lib.ListN.{length}
 use borrow.Author.Needs.{needs}
-use Rattle.gap.specs.Layout.{printable}
+use Rattle.gap.specs.Rules.Layout.{printable}
 use Rattle.gap.proofs.Laws.Scans.{Tested, tested-start, tested-more, tested-all}
 use Rattle.gap.proofs.sound.all_printable.Statement.{statement}
 use Rattle.gap.proofs.sound.all_printable.Tie as tie
@@ -14,21 +14,6 @@ Inv-loop s ok₀ i₀ ok i = Tested printable s ok i
 abbrev μ-loop : tie.MeasureT-loop
 μ-loop s ok₀ i₀ ok i = length s - i
 
-loop-holds : tie.Need-loop-holds Inv-loop μ-loop
-loop-holds c = tested-start printable _
-
-shared-slice-read-is-printable : tie.Need-shared-slice-read-is-printable Inv-loop μ-loop
-shared-slice-read-is-printable c = omega arith
-
-is-printable-requires : tie.Need-is-printable-requires Inv-loop μ-loop
-is-printable-requires c κs = search needs
-
-add-i : tie.Need-add-i Inv-loop μ-loop
-add-i c = omega arith
-
-loop-less : tie.Need-loop-less Inv-loop μ-loop
-loop-less c = omega arith
-
 loop-again : tie.Need-loop-again Inv-loop μ-loop
 loop-again c =
     let inside : tie.In-loop Inv-loop μ-loop = search in
@@ -38,6 +23,10 @@ returns : tie.Need-returns Inv-loop μ-loop
 returns c = tested-all printable _ _ _ (c .before .loop .inv) (c .loop-test .left)
 
 pub all-printable-spec : {M : Type 1} → statement M
-all-printable-spec =
-    tie.close
-    (tie.spec Inv-loop μ-loop loop-holds shared-slice-read-is-printable is-printable-requires add-i loop-less loop-again returns)
+all-printable-spec = tie.close (tie.spec Inv-loop μ-loop
+    (λ c. tested-start printable _)  -- loop-holds
+    (λ c. omega arith)  -- shared-slice-read-is-printable
+    (λ c κs. search needs)  -- is-printable-requires
+    (λ c. omega arith)  -- add-i
+    (λ c. omega arith)  -- loop-less
+    loop-again returns)

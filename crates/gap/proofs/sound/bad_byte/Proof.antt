@@ -4,7 +4,7 @@ use Prim.Native.Nat.{_-_}
 use native.Mathlib.Omega.{arith}
 use lib.ListN.{length}
 use borrow.Author.Needs.{needs}
-use Rattle.gap.specs.Layout.{allowed}
+use Rattle.gap.specs.Rules.Layout.{allowed}
 use Rattle.gap.proofs.Laws.Scans.{PassedUpTo, passed-start, passed-found, passed-more, passed-all, every-nowhere}
 use Rattle.gap.proofs.sound.bad_byte.Statement.{statement}
 use Rattle.gap.proofs.sound.bad_byte.Tie as tie
@@ -15,31 +15,13 @@ Inv-loop s i₀ i = PassedUpTo allowed s i
 abbrev μ-loop : tie.MeasureT-loop
 μ-loop s i₀ i = length s - i
 
-all-allowed-requires : tie.Need-all-allowed-requires Inv-loop μ-loop
-all-allowed-requires c κs = search needs
-
 returns : tie.Need-returns Inv-loop μ-loop
 returns c = every-nowhere allowed _ (c .before .all-allowed .ensures) (c .if1 .taken)
-
-loop-holds : tie.Need-loop-holds Inv-loop μ-loop
-loop-holds c = passed-start allowed _
-
-shared-slice-read-is-allowed : tie.Need-shared-slice-read-is-allowed Inv-loop μ-loop
-shared-slice-read-is-allowed c = omega arith
-
-is-allowed-requires : tie.Need-is-allowed-requires Inv-loop μ-loop
-is-allowed-requires c κs = search needs
 
 returns-2 : tie.Need-returns-2 Inv-loop μ-loop
 returns-2 c =
     let tested : tie.After-is-allowed Inv-loop μ-loop = search in let inside : tie.In-loop Inv-loop μ-loop = search in
     passed-found allowed _ _ (inside .before .loop .inv) (inside .loop-test .taken) (tested .is-allowed .ensures) (c .if2 .taken)
-
-add-i : tie.Need-add-i Inv-loop μ-loop
-add-i c = omega arith
-
-loop-less : tie.Need-loop-less Inv-loop μ-loop
-loop-less c = omega arith
 
 loop-again : tie.Need-loop-again Inv-loop μ-loop
 loop-again c =
@@ -50,18 +32,13 @@ returns-3 : tie.Need-returns-3 Inv-loop μ-loop
 returns-3 c = passed-all allowed _ _ (c .before .loop .inv) (c .loop-test .left)
 
 pub bad-byte-spec : {M : Type 1} → statement M
-bad-byte-spec =
-    tie.close
-    (tie.spec
-    Inv-loop
-    μ-loop
-    all-allowed-requires
+bad-byte-spec = tie.close (tie.spec Inv-loop μ-loop
+    (λ c κs. search needs)  -- all-allowed-requires
     returns
-    loop-holds
-    shared-slice-read-is-allowed
-    is-allowed-requires
+    (λ c. passed-start allowed _)  -- loop-holds
+    (λ c. omega arith)  -- shared-slice-read-is-allowed
+    (λ c κs. search needs)  -- is-allowed-requires
     returns-2
-    add-i
-    loop-less
-    loop-again
-    returns-3)
+    (λ c. omega arith)  -- add-i
+    (λ c. omega arith)  -- loop-less
+    loop-again returns-3)

@@ -4,7 +4,7 @@ use Prim.Native.Nat.{_-_}
 use native.Mathlib.Omega.{arith}
 use lib.ListN.{length}
 use borrow.Author.Needs.{needs}
-use Rattle.gap.specs.Layout.{printable}
+use Rattle.gap.specs.Rules.Layout.{printable}
 use Rattle.gap.proofs.Laws.Scans.{PassedUpTo, passed-start, passed-found, passed-more, passed-all, every-nowhere}
 use Rattle.gap.proofs.sound.bad_cell.Statement.{statement}
 use Rattle.gap.proofs.sound.bad_cell.Tie as tie
@@ -15,31 +15,13 @@ Inv-loop s i₀ i = PassedUpTo printable s i
 abbrev μ-loop : tie.MeasureT-loop
 μ-loop s i₀ i = length s - i
 
-all-printable-requires : tie.Need-all-printable-requires Inv-loop μ-loop
-all-printable-requires c κs = search needs
-
 returns : tie.Need-returns Inv-loop μ-loop
 returns c = every-nowhere printable _ (c .before .all-printable .ensures) (c .if1 .taken)
-
-loop-holds : tie.Need-loop-holds Inv-loop μ-loop
-loop-holds c = passed-start printable _
-
-shared-slice-read-is-printable : tie.Need-shared-slice-read-is-printable Inv-loop μ-loop
-shared-slice-read-is-printable c = omega arith
-
-is-printable-requires : tie.Need-is-printable-requires Inv-loop μ-loop
-is-printable-requires c κs = search needs
 
 returns-2 : tie.Need-returns-2 Inv-loop μ-loop
 returns-2 c =
     let tested : tie.After-is-printable Inv-loop μ-loop = search in let inside : tie.In-loop Inv-loop μ-loop = search in
     passed-found printable _ _ (inside .before .loop .inv) (inside .loop-test .taken) (tested .is-printable .ensures) (c .if2 .taken)
-
-add-i : tie.Need-add-i Inv-loop μ-loop
-add-i c = omega arith
-
-loop-less : tie.Need-loop-less Inv-loop μ-loop
-loop-less c = omega arith
 
 loop-again : tie.Need-loop-again Inv-loop μ-loop
 loop-again c =
@@ -50,18 +32,13 @@ returns-3 : tie.Need-returns-3 Inv-loop μ-loop
 returns-3 c = passed-all printable _ _ (c .before .loop .inv) (c .loop-test .left)
 
 pub bad-cell-spec : {M : Type 1} → statement M
-bad-cell-spec =
-    tie.close
-    (tie.spec
-    Inv-loop
-    μ-loop
-    all-printable-requires
+bad-cell-spec = tie.close (tie.spec Inv-loop μ-loop
+    (λ c κs. search needs)  -- all-printable-requires
     returns
-    loop-holds
-    shared-slice-read-is-printable
-    is-printable-requires
+    (λ c. passed-start printable _)  -- loop-holds
+    (λ c. omega arith)  -- shared-slice-read-is-printable
+    (λ c κs. search needs)  -- is-printable-requires
     returns-2
-    add-i
-    loop-less
-    loop-again
-    returns-3)
+    (λ c. omega arith)  -- add-i
+    (λ c. omega arith)  -- loop-less
+    loop-again returns-3)

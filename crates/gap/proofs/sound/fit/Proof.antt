@@ -5,11 +5,7 @@ use borrow.Author.Tests.{leb-true, leb-false}
 use Rattle.gap.proofs.sound.fit.Statement.{statement}
 use Rattle.gap.proofs.sound.fit.Tie as tie
 
-returns : tie.Need-returns
-returns c = (λ e. absurd (false≢true e), λ e. omega arith)
-
-returns-2 : tie.Need-returns-2
-returns-2 c = (λ e. omega (arith, leb-true), λ e. omega (arith, leb-false))
-
 pub fit-spec : {M : Type 1} → statement M
-fit-spec = tie.close (tie.spec returns returns-2)
+fit-spec = tie.close (tie.spec
+    (λ c. (λ e. absurd (false≢true e), λ e. omega arith))  -- returns
+    (λ c. (λ e. omega (arith, leb-true), λ e. omega (arith, leb-false))))  -- returns-2

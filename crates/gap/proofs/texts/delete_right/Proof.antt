@@ -5,18 +5,6 @@ use Rattle.gap.proofs.Laws.Stores.{cuts}
 use Rattle.gap.proofs.texts.delete_right.Statement.{statement}
 use Rattle.gap.proofs.texts.delete_right.Tie as tie
 
-sub-back : tie.Need-sub-back
-sub-back c = search needs
-
-take-out-requires : tie.Need-take-out-requires
-take-out-requires c κs = search needs
-
-same-length : tie.Need-same-length
-same-length c = search needs
-
-same-length-2 : tie.Need-same-length-2
-same-length-2 c = search needs
-
 returns : tie.Need-returns
 returns c =
     let after-take-out : tie.After-take-out = search in let start : tie.Start = search in
@@ -24,5 +12,8 @@ returns c =
     (after-take-out .take-out .ensures)
 
 pub delete-right-spec : {M : Type 1} → statement M
-delete-right-spec =
-    tie.close (tie.spec sub-back take-out-requires same-length same-length-2 returns)
+delete-right-spec = tie.close (tie.spec
+    (λ c. search needs)  -- sub-back
+    (λ c κs. search needs)  -- take-out-requires
+    (λ c. search needs) (λ c. search needs)  -- same-length .. same-length-2
+    returns)

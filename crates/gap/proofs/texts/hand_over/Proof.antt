@@ -7,29 +7,11 @@ use Rattle.gap.proofs.Laws.Stores.{hands-over}
 use Rattle.gap.proofs.texts.hand_over.Statement.{statement}
 use Rattle.gap.proofs.texts.hand_over.Tie as tie
 
-sub-back : tie.Need-sub-back
-sub-back c = search needs
-
 slice-aggregate-hold : tie.Need-slice-aggregate-hold
 slice-aggregate-hold c = sym (length-take-le _ _ (omega arith))
 
 hold-requires : tie.Need-hold-requires
 hold-requires c κs = rw (sym (slice-aggregate-hold c)) (omega arith)
-
-sub-copy-at : tie.Need-sub-copy-at
-sub-copy-at c = search needs
-
-part-copy-at-start : tie.Need-part-copy-at-start
-part-copy-at-start c = search needs
-
-part-copy-at-end : tie.Need-part-copy-at-end
-part-copy-at-end c = search needs
-
-copy-at-requires : tie.Need-copy-at-requires
-copy-at-requires c κs = search needs
-
-same-length : tie.Need-same-length
-same-length c = search needs
 
 returns : tie.Need-returns
 returns c =
@@ -37,15 +19,12 @@ returns c =
     c .before .before .copy-at .ensures ∙ hands-over _ _ _ (start .args .pair .now) _ (start .pre .0) (start .pre .1) (held .hold .ensures)
 
 pub hand-over-spec : {M : Type 1} → statement M
-hand-over-spec =
-    tie.close
-    (tie.spec
-    sub-back
-    slice-aggregate-hold
-    hold-requires
-    sub-copy-at
-    part-copy-at-start
-    part-copy-at-end
-    copy-at-requires
-    same-length
+hand-over-spec = tie.close (tie.spec
+    (λ c. search needs)  -- sub-back
+    slice-aggregate-hold hold-requires
+    (λ c. search needs)  -- sub-copy-at
+    (λ c. search needs)  -- part-copy-at-start
+    (λ c. search needs)  -- part-copy-at-end
+    (λ c κs. search needs)  -- copy-at-requires
+    (λ c. search needs)  -- same-length
     returns)

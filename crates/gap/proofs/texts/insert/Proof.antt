@@ -4,14 +4,8 @@ use Rattle.gap.proofs.Laws.Stores.{inserts}
 use Rattle.gap.proofs.texts.insert.Statement.{statement}
 use Rattle.gap.proofs.texts.insert.Tie as tie
 
-slice-write-s : tie.Need-slice-write-s
-slice-write-s c = search needs
-
-same-length : tie.Need-same-length
-same-length c = search needs
-
-returns : tie.Need-returns
-returns c = inserts (c .pre .0) _ (c .pre .1)
-
 pub insert-spec : {M : Type 1} → statement M
-insert-spec = tie.close (tie.spec slice-write-s same-length returns)
+insert-spec = tie.close (tie.spec
+    (λ c. search needs)  -- slice-write-s
+    (λ c. search needs)  -- same-length
+    (λ c. inserts (c .pre .0) _ (c .pre .1)))  -- returns

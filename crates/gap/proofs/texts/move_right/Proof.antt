@@ -5,17 +5,12 @@ use Rattle.gap.proofs.Laws.Moves.{moves}
 use Rattle.gap.proofs.texts.move_right.Statement.{statement}
 use Rattle.gap.proofs.texts.move_right.Tie as tie
 
-sub-back : tie.Need-sub-back
-sub-back c = search needs
-
-shift-requires : tie.Need-shift-requires
-shift-requires c κs = search needs
-
-same-length : tie.Need-same-length
-same-length c = search needs
-
 returns : tie.Need-returns
 returns c = moves Right (c .before .before .before .before .before .pre) (c .before .before .shift .ensures)
 
 pub move-right-spec : {M : Type 1} → statement M
-move-right-spec = tie.close (tie.spec sub-back shift-requires same-length returns)
+move-right-spec = tie.close (tie.spec
+    (λ c. search needs)  -- sub-back
+    (λ c κs. search needs)  -- shift-requires
+    (λ c. search needs)  -- same-length
+    returns)

@@ -2,14 +2,11 @@
 use mathlib.Core.Path.{sym, _∙_}
 use borrow.Author.Tests.{not-true, not-false}
 use borrow.Author.Needs.{needs}
-use Rattle.editor.specs.Bytes.{quarter}
-use Rattle.editor.specs.Promise.{Sound, stores}
+use Rattle.editor.specs.Rules.Bytes.{quarter}
+use Rattle.editor.specs.Wording.Promise.{Sound, stores}
 use Rattle.window.proofs.Laws.KeyCall.{texts-held, no-session, session-so}
 use Rattle.window.proofs.calls.is_session.Statement.{statement}
 use Rattle.window.proofs.calls.is_session.Tie as tie
-
-editor-ok-requires : tie.Need-editor-ok-requires
-editor-ok-requires c κs = search needs
 
 returns : tie.Need-returns
 returns c = no-session _ _ (sym (c .before .editor-ok .ensures) ∙ not-true _ (c .if1 .taken))
@@ -27,12 +24,12 @@ sound c =
 cursor-requires : tie.Need-cursor-requires
 cursor-requires c κs = texts-held _ _ _ _ (sound c)
 
-is-visible-requires : tie.Need-is-visible-requires
-is-visible-requires c κs = search needs
-
 returns-2 : tie.Need-returns-2
 returns-2 c = session-so _ _ (sound (c .before .before) .ok) _ (c .before .cursor .ensures) _ (c .is-visible .ensures)
 
 pub is-session-spec : {M : Type 1} → statement M
-is-session-spec =
-    tie.close (tie.spec editor-ok-requires returns cursor-requires is-visible-requires returns-2)
+is-session-spec = tie.close (tie.spec
+    (λ c κs. search needs)  -- editor-ok-requires
+    returns cursor-requires
+    (λ c κs. search needs)  -- is-visible-requires
+    returns-2)

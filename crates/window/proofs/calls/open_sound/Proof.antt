@@ -1,61 +1,27 @@
--- `calls::open_sound` meets its contract: the cleared stores are the opened text's, and the painted screen is its window.
+-- `open_sound`: the editor opens its stores, and the painted screen is the opened text's window.
 use borrow.Author.Needs.{needs}
+use Rattle.window.proofs.Laws.Views.{tabled-facts}
 use Rattle.window.proofs.Laws.OpeningCall.{refresh-asked, text-opened}
 use Rattle.window.proofs.calls.open_sound.Statement.{statement}
 use Rattle.window.proofs.calls.open_sound.Tie as tie
 
-opening-lengths-requires : tie.Need-opening-lengths-requires
-opening-lengths-requires c κs = search needs
-
-open-text-requires : tie.Need-open-text-requires
-open-text-requires c κs = search needs
-
-clear-requires : tie.Need-clear-requires
-clear-requires c κs = search needs
-
-clear-requires-2 : tie.Need-clear-requires-2
-clear-requires-2 c κs = search needs
+open-stores-requires : tie.Need-open-stores-requires
+open-stores-requires c κs =
+    let start : tie.Start = search in
+    (tabled-facts _ _ _ (start .pre .0) .stores, start .pre .1)
 
 refresh-requires : tie.Need-refresh-requires
 refresh-requires c κs =
-    let cleared : tie.After-clear2 = search in let opened : tie.After-open-text = search in
-    let start : tie.Start = search in
-    let lengths = opened .before .before in
-    refresh-asked _ _ _ _ (start .pre .0) (start .pre .1) (lengths .opening-lengths .ensures) (opened .open-text .ensures)
-    (cleared .clear2 .ensures)
-
-same-length : tie.Need-same-length
-same-length c = search needs
-
-same-length-2 : tie.Need-same-length-2
-same-length-2 c = search needs
-
-same-length-3 : tie.Need-same-length-3
-same-length-3 c = search needs
-
-same-length-4 : tie.Need-same-length-4
-same-length-4 c = search needs
+    let opened : tie.After-open-stores = search in let start : tie.Start = search in
+    refresh-asked _ _ _ _ (start .pre .0) (start .pre .1) (opened .open-stores .ensures) (opened .open-stores .kept .1 .1 .1 .0)
 
 returns : tie.Need-returns
 returns c =
-    let cleared : tie.After-clear2 = search in let after-clear : tie.After-clear = search in
-    let opened : tie.After-open-text = search in let lengths : tie.After-opening-lengths = search in
-    let start : tie.Start = search in
-    let painted = c .before .before in
-    text-opened _ _ _ _ (start .pre .0) (start .pre .1) (lengths .opening-lengths .ensures) (opened .open-text .ensures)
-    (cleared .clear2 .ensures) (after-clear .clear .ensures) (painted .refresh .ensures)
+    let painted : tie.After-refresh = search in let opened : tie.After-open-stores = search in let start : tie.Start = search in
+    text-opened _ _ _ _ (start .pre .0) (start .pre .1) (opened .open-stores .ensures) (opened .open-stores .kept .1 .1 .1 .0)
+    (painted .refresh .ensures)
 
 pub open-sound-spec : {M : Type 1} → statement M
-open-sound-spec =
-    tie.close
-    (tie.spec
-    opening-lengths-requires
-    open-text-requires
-    clear-requires
-    clear-requires-2
-    refresh-requires
-    same-length
-    same-length-2
-    same-length-3
-    same-length-4
+open-sound-spec = tie.close (tie.spec open-stores-requires refresh-requires
+    (λ c. search needs) (λ c. search needs) (λ c. search needs) (λ c. search needs)  -- same-length .. same-length-4
     returns)

@@ -3,32 +3,14 @@ use mathlib.Core.Path.{_≡_, sym, _∙_}
 use mathlib.Core.Bool.{true}
 use borrow.Author.Tests.{not-true, not-false}
 use borrow.Author.Needs.{needs}
-use Rattle.editor.specs.Bytes.{quarter}
-use Rattle.editor.specs.Promise.{Sound, stores}
-use Rattle.window.specs.Core.{Lent, tabled, isSession}
-use Rattle.window.specs.Calls.{lent}
-use Rattle.window.proofs.Laws.KeyCall.{refused-size, refused-session, Accepted, press-refused, press-done, session-sound}
+use Rattle.editor.specs.Rules.Bytes.{quarter}
+use Rattle.editor.specs.Wording.Promise.{Sound, stores}
+use Rattle.window.specs.Rules.Core.{Lent, tabled, isSession}
+use Rattle.window.specs.Wording.Calls.{lent}
+use Rattle.window.proofs.Laws.KeyCall.{texts-held, refused-size, refused-session, Accepted, press-refused, press-done, session-sound}
 use Rattle.window.proofs.Laws.Views.{tabled-facts}
 use Rattle.window.proofs.calls.press.Statement.{statement}
 use Rattle.window.proofs.calls.press.Tie as tie
-
-tabled-stores-requires : tie.Need-tabled-stores-requires
-tabled-stores-requires c κs = search needs
-
-turned-down-requires : tie.Need-turned-down-requires
-turned-down-requires c κs = search needs
-
-same-length : tie.Need-same-length
-same-length c = search needs
-
-same-length-2 : tie.Need-same-length-2
-same-length-2 c = search needs
-
-same-length-3 : tie.Need-same-length-3
-same-length-3 c = search needs
-
-same-length-4 : tie.Need-same-length-4
-same-length-4 c = search needs
 
 returns : tie.Need-returns
 returns c =
@@ -50,21 +32,6 @@ ok c = sym (c .before .is-session .ensures) ∙ not-false _ (c .if2 .left)
 is-session-requires : tie.Need-is-session-requires
 is-session-requires c κs = tabled-facts _ _ _ (fit (c .before .before .before)) .stores
 
-turned-down-requires-2 : tie.Need-turned-down-requires-2
-turned-down-requires-2 c κs = search needs
-
-same-length-5 : tie.Need-same-length-5
-same-length-5 c = search needs
-
-same-length-6 : tie.Need-same-length-6
-same-length-6 c = search needs
-
-same-length-7 : tie.Need-same-length-7
-same-length-7 c = search needs
-
-same-length-8 : tie.Need-same-length-8
-same-length-8 c = search needs
-
 returns-2 : tie.Need-returns-2
 returns-2 c =
     refused-session _ _ _ (fit (c .before .before .before .before .before .before))
@@ -79,21 +46,6 @@ sessions c =
 
 press-session-requires : tie.Need-press-session-requires
 press-session-requires c κs = sessions (c .before .before .before)
-
-turned-down-requires-3 : tie.Need-turned-down-requires-3
-turned-down-requires-3 c κs = search needs
-
-same-length-9 : tie.Need-same-length-9
-same-length-9 c = search needs
-
-same-length-10 : tie.Need-same-length-10
-same-length-10 c = search needs
-
-same-length-11 : tie.Need-same-length-11
-same-length-11 c = search needs
-
-same-length-12 : tie.Need-same-length-12
-same-length-12 c = search needs
 
 returns-3 : tie.Need-returns-3
 returns-3 c =
@@ -114,53 +66,29 @@ accepted c =
     press-done (s .args .s) (s .args .k) (entry s) (fit else1) (ok tested) _ _ (done .press-session .ensures) (c .if3 .left)
 
 show-requires : tie.Need-show-requires
-show-requires c κs = let known = accepted (c .before .before .before .before) in (known .sound, known .fit)
-
-same-length-13 : tie.Need-same-length-13
-same-length-13 c = search needs
-
-same-length-14 : tie.Need-same-length-14
-same-length-14 c = search needs
-
-same-length-15 : tie.Need-same-length-15
-same-length-15 c = search needs
-
-same-length-16 : tie.Need-same-length-16
-same-length-16 c = search needs
+show-requires c κs =
+    let tested : tie.Else3 = search in
+    let known = accepted tested in
+    let facts = tabled-facts _ _ _ (known .fit) in
+    (texts-held _ _ _ _ (known .sound), (facts .frame, facts .long))
 
 returns-4 : tie.Need-returns-4
 returns-4 c =
-    let else3 : tie.Else3 = search in
-    c .before .before .show .ensures ∙ accepted else3 .shows
+    let shown : tie.After-show = search in let tested : tie.Else3 = search in
+    let known = accepted tested in
+    shown .show .ensures _ (known .sound) (known .fit) ∙ known .shows
 
 pub press-spec : {M : Type 1} → statement M
-press-spec =
-    tie.close
-    (tie.spec
-    tabled-stores-requires
-    turned-down-requires
-    same-length
-    same-length-2
-    same-length-3
-    same-length-4
-    returns
-    is-session-requires
-    turned-down-requires-2
-    same-length-5
-    same-length-6
-    same-length-7
-    same-length-8
-    returns-2
-    press-session-requires
-    turned-down-requires-3
-    same-length-9
-    same-length-10
-    same-length-11
-    same-length-12
-    returns-3
-    show-requires
-    same-length-13
-    same-length-14
-    same-length-15
-    same-length-16
+press-spec = tie.close (tie.spec
+    (λ c κs. search needs)  -- tabled-stores-requires
+    (λ c κs. search needs)  -- turned-down-requires
+    (λ c. search needs) (λ c. search needs) (λ c. search needs) (λ c. search needs)  -- same-length .. same-length-4
+    returns is-session-requires
+    (λ c κs. search needs)  -- turned-down-requires-2
+    (λ c. search needs) (λ c. search needs) (λ c. search needs) (λ c. search needs)  -- same-length-5 .. same-length-8
+    returns-2 press-session-requires
+    (λ c κs. search needs)  -- turned-down-requires-3
+    (λ c. search needs) (λ c. search needs) (λ c. search needs) (λ c. search needs)  -- same-length-9 .. same-length-12
+    returns-3 show-requires
+    (λ c. search needs) (λ c. search needs) (λ c. search needs) (λ c. search needs)  -- same-length-13 .. same-length-16
     returns-4)

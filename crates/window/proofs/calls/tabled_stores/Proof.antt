@@ -4,19 +4,13 @@ use mathlib.Core.Bool.{true}
 use native.Mathlib.Omega.{arith}
 use borrow.Author.Tests.{not-true, not-false}
 use borrow.Author.Needs.{needs}
-use Rattle.window.specs.Core.{rowsAndColumns}
+use Rattle.window.specs.Rules.Core.{rowsAndColumns}
 use Rattle.window.proofs.Laws.KeyCall.{not-tabled, tabled-so, product-small}
 use Rattle.window.proofs.calls.tabled_stores.Statement.{statement}
 use Rattle.window.proofs.calls.tabled_stores.Tie as tie
 
-rows-and-columns-requires : tie.Need-rows-and-columns-requires
-rows-and-columns-requires c κs = search needs
-
 returns : tie.Need-returns
 returns c = not-tabled _ _ _ (sym (c .before .rows-and-columns .ensures) ∙ not-true _ (c .if1 .taken))
-
-sized-stores-requires : tie.Need-sized-stores-requires
-sized-stores-requires c κs = search needs
 
 small : (c : tie.Else1) → rowsAndColumns (c .before .before .before .before .before .before .args .h) (c .before .before .before .before .before .before .args .w) ≡ true
 small c = sym (c .before .rows-and-columns .ensures) ∙ not-false _ (c .if1 .left)
@@ -30,6 +24,8 @@ returns-2 : tie.Need-returns-2
 returns-2 c = tabled-so _ _ _ _ (c .sized-stores .ensures) (small (c .before))
 
 pub tabled-stores-spec : {M : Type 1} → statement M
-tabled-stores-spec =
-    tie.close
-    (tie.spec rows-and-columns-requires returns sized-stores-requires mul-result returns-2)
+tabled-stores-spec = tie.close (tie.spec
+    (λ c κs. search needs)  -- rows-and-columns-requires
+    returns
+    (λ c κs. search needs)  -- sized-stores-requires
+    mul-result returns-2)

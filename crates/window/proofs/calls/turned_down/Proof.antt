@@ -4,11 +4,10 @@ use borrow.Author.Needs.{needs}
 use Rattle.window.proofs.calls.turned_down.Statement.{statement}
 use Rattle.window.proofs.calls.turned_down.Tie as tie
 
-refuse-requires : tie.Need-refuse-requires
-refuse-requires c κs = search needs
-
 returns : tie.Need-returns
-returns c = ap (λ a. record { answer = a; session = c .before .args .s }) (c .refuse .ensures)
+returns c = ap (λ a. record { answer = a; session = c .before .args .s }) (c .refusal .ensures)
 
 pub turned-down-spec : {M : Type 1} → statement M
-turned-down-spec = tie.close (tie.spec refuse-requires returns)
+turned-down-spec = tie.close (tie.spec
+    (λ c κs. search needs)  -- refusal-requires
+    returns)

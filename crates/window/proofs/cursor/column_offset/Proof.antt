@@ -4,12 +4,6 @@ use Rattle.window.proofs.Laws.Spots.{policy-left, policy-right, policy-
 use Rattle.window.proofs.cursor.column_offset.Statement.{statement}
 use Rattle.window.proofs.cursor.column_offset.Tie as tie
 
-returns : tie.Need-returns
-returns c = policy-left (c .before .args .f) _ (c .if1 .taken)
-
-sub-result : tie.Need-sub-result
-sub-result c = search needs
-
 returns-2 : tie.Need-returns-2
 returns-2 c = policy-right (c .before .before .args .f) _ (c .before .if1 .left) (c .if2 .taken)
 
@@ -17,4 +11,7 @@ returns-3 : tie.Need-returns-3
 returns-3 c = policy-column-stays (c .before .before .args .f) _ (c .before .if1 .left) (c .if2 .left)
 
 pub column-offset-spec : {M : Type 1} → statement M
-column-offset-spec = tie.close (tie.spec returns sub-result returns-2 returns-3)
+column-offset-spec = tie.close (tie.spec
+    (λ c. policy-left (c .before .args .f) _ (c .if1 .taken))  -- returns
+    (λ c. search needs)  -- sub-result
+    returns-2 returns-3)

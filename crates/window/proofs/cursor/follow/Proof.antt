@@ -3,12 +3,6 @@ use borrow.Author.Needs.{needs}
 use Rattle.window.proofs.cursor.follow.Statement.{statement}
 use Rattle.window.proofs.cursor.follow.Tie as tie
 
-row-offset-requires : tie.Need-row-offset-requires
-row-offset-requires c κs = search needs
-
-column-offset-requires : tie.Need-column-offset-requires
-column-offset-requires c κs = search needs
-
 returns : tie.Need-returns
 returns c =
     let f = c .before .before .args .f in
@@ -17,4 +11,7 @@ returns c =
     λ i. record { r = row i; c = column i; h = f .h; w = f .w }
 
 pub follow-spec : {M : Type 1} → statement M
-follow-spec = tie.close (tie.spec row-offset-requires column-offset-requires returns)
+follow-spec = tie.close (tie.spec
+    (λ c κs. search needs)  -- row-offset-requires
+    (λ c κs. search needs)  -- column-offset-requires
+    returns)

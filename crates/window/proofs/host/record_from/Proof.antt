@@ -3,11 +3,7 @@ use borrow.Author.Needs.{needs}
 use Rattle.window.proofs.host.record_from.Statement.{statement}
 use Rattle.window.proofs.host.record_from.Tie as tie
 
-mode-number-requires : tie.Need-mode-number-requires
-mode-number-requires c κs = search needs
-
-returns : tie.Need-returns
-returns c = rw (c .mode-number .ensures)
-
 pub record-from-spec : {M : Type 1} → statement M
-record-from-spec = tie.close (tie.spec mode-number-requires returns)
+record-from-spec = tie.close (tie.spec
+    (λ c κs. search needs)  -- mode-number-requires
+    (λ c. rw (c .mode-number .ensures)))  -- returns

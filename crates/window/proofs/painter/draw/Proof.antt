@@ -3,7 +3,7 @@ use mathlib.Core.Path.{sym, _∙_}
 use Prim.Native.Nat.{_-_}
 use native.Mathlib.Omega.{arith}
 use lib.ListN.{length}
-use Rattle.window.specs.Painter.{sheet}
+use Rattle.window.specs.Wording.Painter.{sheet}
 use Rattle.window.proofs.Laws.Drawing.{Drawn, drawn-none, drawn-in-row, drawn-run, drawn-line, drawn-over, drawn-all}
 use Rattle.window.proofs.Laws.Drawing.{run-asks, line-asks}
 use Rattle.window.proofs.painter.draw.Statement.{statement}
@@ -15,29 +15,14 @@ Inv-loop f t screen₀ n bottom now₀ i₀ screen now i = Drawn f t (sheet now�
 abbrev μ-loop : tie.MeasureT-loop
 μ-loop f t screen₀ n bottom now₀ i₀ screen now i = length t - i
 
-add-bottom : tie.Need-add-bottom Inv-loop μ-loop
-add-bottom c = omega arith
-
 loop-holds : tie.Need-loop-holds Inv-loop μ-loop
 loop-holds c = drawn-none (c .before .before .before .pre .0) (c .before .before .before .pre .1)
 
 same-length : tie.Need-same-length Inv-loop μ-loop
 same-length c = c .before .before .loop .inv .easel .long ∙ sym (c .before .before .before .before .before .before .pre .0 .long)
 
-returns : tie.Need-returns Inv-loop μ-loop
-returns c = drawn-over (c .before .before .loop .inv) (c .if1 .taken)
-
-run-end-requires : tie.Need-run-end-requires Inv-loop μ-loop
-run-end-requires c κs = c .before .before .loop .inv .within
-
-sub-draw-run : tie.Need-sub-draw-run Inv-loop μ-loop
-sub-draw-run c = c .run-end .ensures .low
-
 part-draw-run-start : tie.Need-part-draw-run-start Inv-loop μ-loop
 part-draw-run-start c = omega (arith, c .run-end .ensures .low, c .run-end .ensures .high)
-
-part-draw-run-end : tie.Need-part-draw-run-end Inv-loop μ-loop
-part-draw-run-end c = c .run-end .ensures .high
 
 draw-run-requires : tie.Need-draw-run-requires Inv-loop μ-loop
 draw-run-requires c κs =
@@ -69,9 +54,6 @@ end-row-requires c κs =
     let run = drawn-run row (found .run-end .ensures) (ran .draw-run .ensures) in
     line-asks run (c .before .if2 .left)
 
-add-i : tie.Need-add-i Inv-loop μ-loop
-add-i c = omega (arith, c .before .before .before .before .if2 .left)
-
 loop-less : tie.Need-loop-less Inv-loop μ-loop
 loop-less c =
     let branch = c .before .before .before .before in
@@ -90,29 +72,16 @@ loop-again c =
 same-length-3 : tie.Need-same-length-3 Inv-loop μ-loop
 same-length-3 c = c .before .loop .inv .easel .long ∙ sym (c .before .before .before .before .before .pre .0 .long)
 
-returns-3 : tie.Need-returns-3 Inv-loop μ-loop
-returns-3 c = drawn-all (c .before .loop .inv) (c .loop-test .left)
-
 pub draw-spec : {M : Type 1} → statement M
-draw-spec =
-    tie.close
-    (tie.spec
-    Inv-loop
-    μ-loop
-    add-bottom
-    loop-holds
-    same-length
-    returns
-    run-end-requires
-    sub-draw-run
+draw-spec = tie.close (tie.spec Inv-loop μ-loop
+    (λ c. omega arith)  -- add-bottom
+    loop-holds same-length
+    (λ c. drawn-over (c .before .before .loop .inv) (c .if1 .taken))  -- returns
+    (λ c κs. c .before .before .loop .inv .within)  -- run-end-requires
+    (λ c. c .run-end .ensures .low)  -- sub-draw-run
     part-draw-run-start
-    part-draw-run-end
-    draw-run-requires
-    same-length-2
-    returns-2
-    end-row-requires
-    add-i
-    loop-less
-    loop-again
-    same-length-3
-    returns-3)
+    (λ c. c .run-end .ensures .high)  -- part-draw-run-end
+    draw-run-requires same-length-2 returns-2 end-row-requires
+    (λ c. omega (arith, c .before .before .before .before .if2 .left))  -- add-i
+    loop-less loop-again same-length-3
+    (λ c. drawn-all (c .before .loop .inv) (c .loop-test .left)))  -- returns-3

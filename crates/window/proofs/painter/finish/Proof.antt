@@ -2,7 +2,7 @@
 use mathlib.Core.Path.{sym, _∙_}
 use Prim.Native.Nat.{_+_, _-_}
 use native.Mathlib.Omega.{arith}
-use Rattle.window.specs.Painter.{sheet}
+use Rattle.window.specs.Wording.Painter.{sheet}
 use Rattle.window.proofs.Laws.Drawing.{Finished, finished-none, end-asks, finished-line, finished-all}
 use Rattle.window.proofs.painter.finish.Statement.{statement}
 use Rattle.window.proofs.painter.finish.Tie as tie
@@ -13,20 +13,11 @@ Inv-loop f screen₀ bottom now₀ y₀ screen now y = Finished f (sheet now₀ 
 abbrev μ-loop : tie.MeasureT-loop
 μ-loop f screen₀ bottom now₀ y₀ screen now y = f .r + f .h - y
 
-add-bottom : tie.Need-add-bottom Inv-loop μ-loop
-add-bottom c = omega arith
-
 loop-holds : tie.Need-loop-holds Inv-loop μ-loop
 loop-holds c = finished-none (c .before .before .pre .0) (c .before .before .pre .1)
 
 end-row-requires : tie.Need-end-row-requires Inv-loop μ-loop
 end-row-requires c κs = end-asks (c .before .before .loop .inv) (c .before .loop-test .taken)
-
-add-y : tie.Need-add-y Inv-loop μ-loop
-add-y c = omega arith
-
-loop-less : tie.Need-loop-less Inv-loop μ-loop
-loop-less c = omega arith
 
 loop-again : tie.Need-loop-again Inv-loop μ-loop
 loop-again c =
@@ -36,20 +27,11 @@ loop-again c =
 same-length : tie.Need-same-length Inv-loop μ-loop
 same-length c = c .before .loop .inv .easel .long ∙ sym (c .before .before .before .before .pre .0 .long)
 
-returns : tie.Need-returns Inv-loop μ-loop
-returns c = finished-all (c .before .loop .inv) (c .loop-test .left)
-
 pub finish-spec : {M : Type 1} → statement M
-finish-spec =
-    tie.close
-    (tie.spec
-    Inv-loop
-    μ-loop
-    add-bottom
-    loop-holds
-    end-row-requires
-    add-y
-    loop-less
-    loop-again
-    same-length
-    returns)
+finish-spec = tie.close (tie.spec Inv-loop μ-loop
+    (λ c. omega arith)  -- add-bottom
+    loop-holds end-row-requires
+    (λ c. omega arith)  -- add-y
+    (λ c. omega arith)  -- loop-less
+    loop-again same-length
+    (λ c. finished-all (c .before .loop .inv) (c .loop-test .left)))  -- returns

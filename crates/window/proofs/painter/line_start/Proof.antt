@@ -11,35 +11,14 @@ Inv-loop t k left₀ end₀ left end = Back t k left end
 abbrev μ-loop : tie.MeasureT-loop
 μ-loop t k left₀ end₀ left end = left
 
-loop-holds : tie.Need-loop-holds Inv-loop μ-loop
-loop-holds c = back-start (c .before .pre)
-
-slice-aggregate-since-newline : tie.Need-slice-aggregate-since-newline Inv-loop μ-loop
-slice-aggregate-since-newline c = simp length-take (omega arith)
-
-since-newline-requires : tie.Need-since-newline-requires Inv-loop μ-loop
-since-newline-requires c κs = simp length-take (omega arith)
-
 sub-end : tie.Need-sub-end Inv-loop μ-loop
 sub-end c = back-inside (c .before .before .before .loop .inv) (c .since-newline .ensures)
 
 sub-end-2 : tie.Need-sub-end-2 Inv-loop μ-loop
 sub-end-2 c = back-room (c .before .before .before .loop .inv) (c .since-newline .ensures)
 
-sub-left : tie.Need-sub-left Inv-loop μ-loop
-sub-left c = omega arith
-
-loop-less : tie.Need-loop-less Inv-loop μ-loop
-loop-less c = omega arith
-
 loop-again : tie.Need-loop-again Inv-loop μ-loop
 loop-again c = back-more (c .before .before .before .loop .inv) (c .since-newline .ensures) (c .before .before .loop-test .taken)
-
-slice-aggregate-since-newline-2 : tie.Need-slice-aggregate-since-newline-2 Inv-loop μ-loop
-slice-aggregate-since-newline-2 c = simp length-take (omega arith)
-
-since-newline-requires-2 : tie.Need-since-newline-requires-2 Inv-loop μ-loop
-since-newline-requires-2 c κs = simp length-take (omega arith)
 
 sub-result : tie.Need-sub-result Inv-loop μ-loop
 sub-result c = back-inside (c .before .before .before .loop .inv) (c .since-newline2 .ensures)
@@ -48,20 +27,14 @@ returns : tie.Need-returns Inv-loop μ-loop
 returns c = back-all (c .before .before .before .loop .inv) (c .since-newline2 .ensures) (c .before .before .loop-test .left)
 
 pub line-start-spec : {M : Type 1} → statement M
-line-start-spec =
-    tie.close
-    (tie.spec
-    Inv-loop
-    μ-loop
-    loop-holds
-    slice-aggregate-since-newline
-    since-newline-requires
-    sub-end
-    sub-end-2
-    sub-left
-    loop-less
+line-start-spec = tie.close (tie.spec Inv-loop μ-loop
+    (λ c. back-start (c .before .pre))  -- loop-holds
+    (λ c. simp length-take (omega arith))  -- slice-aggregate-since-newline
+    (λ c κs. simp length-take (omega arith))  -- since-newline-requires
+    sub-end sub-end-2
+    (λ c. omega arith)  -- sub-left
+    (λ c. omega arith)  -- loop-less
     loop-again
-    slice-aggregate-since-newline-2
-    since-newline-requires-2
-    sub-result
-    returns)
+    (λ c. simp length-take (omega arith))  -- slice-aggregate-since-newline-2
+    (λ c κs. simp length-take (omega arith))  -- since-newline-requires-2
+    sub-result returns)

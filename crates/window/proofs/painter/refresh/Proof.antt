@@ -2,8 +2,9 @@
 use mathlib.Core.List.{List}
 use Prim.Native.Nat.{ℕ}
 use borrow.Author.Needs.{needs}
+use Rattle.editor.specs.Rules.Bytes.{quarter}
 use Rattle.window.specs.declared.Pen.{Pen}
-use Rattle.window.specs.Painter.{sheet}
+use Rattle.window.specs.Wording.Painter.{sheet}
 use Rattle.window.proofs.Laws.Refresh.{main-held, quoted-held, quarter-size, quoted-asked}
 use Rattle.window.proofs.Laws.Refresh.{AllPainted, all-painted, finish-asked, refreshed}
 use Rattle.window.proofs.painter.refresh.Statement.{statement}
@@ -26,32 +27,23 @@ in-main c =
 in-quoted : (c : tie.After-paint-quoted)
     → Painted (c .before .before .before .before .before .before .before .before .before .before) (c .paint-quoted .result)
     (c .paint-quoted .last .1 .1 .1 .1 .1 .1 .1 .0)
+unfolding quarter
 in-quoted c =
     let told = c .before .before .before in
     let start = told .before .before .before .before .before .before .before in
     all-painted (start .pre .0) (start .pre .1) (quoted-held (start .args .n) _ _ (told .enum-told2 .given .1)) (c .paint-quoted .ensures)
 
-enum-told : tie.Need-enum-told
-enum-told c = search needs
-
-paint-main-requires : tie.Need-paint-main-requires
-paint-main-requires c κs = search needs
-
 finish-requires : tie.Need-finish-requires
 finish-requires c κs = finish-asked (in-main (c .before .before .before))
 
-named-rows-requires : tie.Need-named-rows-requires
-named-rows-requires c κs = search needs
-
-enum-told-2 : tie.Need-enum-told-2
-enum-told-2 c = search needs
-
 slice-aggregate-paint-quoted : tie.Need-slice-aggregate-paint-quoted
+unfolding quarter
 slice-aggregate-paint-quoted c =
     let start : tie.Start = search in
     quarter-size (start .pre .0)
 
 paint-quoted-requires : tie.Need-paint-quoted-requires
+unfolding quarter
 paint-quoted-requires c κs =
     let start : tie.Start = search in
     quoted-asked (start .pre .0) (start .pre .1 .0)
@@ -59,19 +51,10 @@ paint-quoted-requires c κs =
 finish-requires-2 : tie.Need-finish-requires-2
 finish-requires-2 c κs = finish-asked (in-quoted (c .before .before .before))
 
-named-rows-requires-2 : tie.Need-named-rows-requires-2
-named-rows-requires-2 c κs = search needs
-
-same-length : tie.Need-same-length
-same-length c = search needs
-
 returns : tie.Need-returns
 returns c =
     let after-paint-main : tie.After-paint-main = search in
     refreshed (in-main after-paint-main) (c .before .before .before .finish .ensures) (c .named-rows .ensures)
-
-same-length-2 : tie.Need-same-length-2
-same-length-2 c = search needs
 
 returns-2 : tie.Need-returns-2
 returns-2 c =
@@ -79,19 +62,15 @@ returns-2 c =
     refreshed (in-quoted after-paint-quoted) (c .before .before .before .finish2 .ensures) (c .named-rows2 .ensures)
 
 pub refresh-spec : {M : Type 1} → statement M
-refresh-spec =
-    tie.close
-    (tie.spec
-    enum-told
-    paint-main-requires
+refresh-spec = tie.close (tie.spec
+    (λ c. search needs)  -- enum-told
+    (λ c κs. search needs)  -- paint-main-requires
     finish-requires
-    named-rows-requires
-    enum-told-2
-    slice-aggregate-paint-quoted
-    paint-quoted-requires
-    finish-requires-2
-    named-rows-requires-2
-    same-length
+    (λ c κs. search needs)  -- named-rows-requires
+    (λ c. search needs)  -- enum-told-2
+    slice-aggregate-paint-quoted paint-quoted-requires finish-requires-2
+    (λ c κs. search needs)  -- named-rows-requires-2
+    (λ c. search needs)  -- same-length
     returns
-    same-length-2
+    (λ c. search needs)  -- same-length-2
     returns-2)

@@ -1,59 +1,36 @@
--- `put_row` writes the row's place and then its cells, which are lent from the screen.
+-- `put_row` writes the row's spot and then its cells, which are lent from the screen.
 use denote.Ref.{now}
 use borrow.Author.Needs.{needs}
-use Rattle.window.proofs.Laws.Sequences.{place-room, cells-room, row-wrote}
+use Rattle.window.proofs.Laws.Sequences.{spot-room, cells-room, row-wrote}
 use Rattle.window.proofs.sequences.put_row.Statement.{statement}
 use Rattle.window.proofs.sequences.put_row.Tie as tie
 
-add-put-place : tie.Need-add-put-place
-add-put-place c = search needs
-
-put-place-requires : tie.Need-put-place-requires
-put-place-requires c κs =
+put-spot-requires : tie.Need-put-spot-requires
+put-spot-requires c κs =
     let start = c .before .before .before in
-    place-room (start .args .w) (start .args .above) (now (start .args .screen)) (start .pre .0 .1) (start .args .at) (start .pre .1)
-
-mul-from : tie.Need-mul-from
-mul-from c = search needs
-
-add-put : tie.Need-add-put
-add-put c = search needs
-
-sub-put : tie.Need-sub-put
-sub-put c = search needs
-
-part-put-start : tie.Need-part-put-start
-part-put-start c = search needs
-
-part-put-end : tie.Need-part-put-end
-part-put-end c = search needs
+    spot-room (start .args .w) (start .args .above) (now (start .args .screen)) (start .pre .0 .1) (start .args .at) (start .pre .1)
 
 put-requires : tie.Need-put-requires
 put-requires c κs =
-    let placed = c .before .before .before .before in
-    let start = placed .before .before .before .before in
+    let sentSpot = c .before .before .before .before in
+    let start = sentSpot .before .before .before .before in
     cells-room (start .args .w) (start .args .above) (now (start .args .screen)) (start .pre .0 .1) (start .pre .1)
-    (placed .put-place .ensures)
-
-same-length : tie.Need-same-length
-same-length c = search needs
+    (sentSpot .put-spot .ensures)
 
 returns : tie.Need-returns
 returns c =
-    let placed : tie.After-put-place = search in let start : tie.Start = search in
-    row-wrote _ _ _ (start .pre .0 .1) (placed .put-place .ensures) (c .before .before .put .ensures)
+    let sentSpot : tie.After-put-spot = search in let start : tie.Start = search in
+    row-wrote _ _ _ (start .pre .0 .1) (sentSpot .put-spot .ensures) (c .before .before .put .ensures)
 
 pub put-row-spec : {M : Type 1} → statement M
-put-row-spec =
-    tie.close
-    (tie.spec
-    add-put-place
-    put-place-requires
-    mul-from
-    add-put
-    sub-put
-    part-put-start
-    part-put-end
+put-row-spec = tie.close (tie.spec
+    (λ c. search needs)  -- add-put-spot
+    put-spot-requires
+    (λ c. search needs)  -- mul-from
+    (λ c. search needs)  -- add-put
+    (λ c. search needs)  -- sub-put
+    (λ c. search needs)  -- part-put-start
+    (λ c. search needs)  -- part-put-end
     put-requires
-    same-length
+    (λ c. search needs)  -- same-length
     returns)

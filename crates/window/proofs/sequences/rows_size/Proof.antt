@@ -3,8 +3,8 @@ use mathlib.Core.Path.{_≡_, refl}
 use Prim.Native.Nat.{_-_, _≤_}
 use native.Mathlib.Omega.{arith}
 use borrow.Author.Needs.{needs}
-use Rattle.window.specs.Writing.{rowsSize}
-use Rattle.window.proofs.Laws.Sequences.{named-row, place-small, rows-small, size-more, size-all}
+use Rattle.window.specs.Wording.Writing.{rowsSize}
+use Rattle.window.proofs.Laws.Sequences.{named-row, spot-small, rows-small, size-more, size-all}
 use Rattle.window.proofs.sequences.rows_size.Statement.{statement}
 use Rattle.window.proofs.sequences.rows_size.Tie as tie
 
@@ -14,34 +14,28 @@ Inv-loop w first last rows size₀ i₀ size i = (i ≤ rows) × (size ≡ rowsS
 abbrev μ-loop : tie.MeasureT-loop
 μ-loop w first last rows size₀ i₀ size i = rows - i
 
-named-rows-requires : tie.Need-named-rows-requires Inv-loop μ-loop
-named-rows-requires c κs = search needs
-
 loop-holds : tie.Need-loop-holds Inv-loop μ-loop
 unfolding rowsSize
 loop-holds c = (omega arith, refl)
 
-add-place-size : tie.Need-add-place-size Inv-loop μ-loop
-add-place-size c =
+add-spot-size : tie.Need-add-spot-size Inv-loop μ-loop
+add-spot-size c =
     let counted = c .before .before in
     let start = counted .before in
     record {
-      fits = omega (arith, named-row (start .args .first) (start .args .last) (counted .named-rows .ensures) (c .loop-test .taken));
+      fits = omega (arith, named-row (start .args .first) (start .args .last) (counted .row-count .ensures) (c .loop-test .taken));
     }
 
-place-size-requires : tie.Need-place-size-requires Inv-loop μ-loop
-place-size-requires c κs = search needs
-
 -- What a turn adds, but for the cells.
-place-is-small : (c : tie.After-place-size Inv-loop μ-loop) → c .place-size .result ≤ 7
-place-is-small c =
+spot-is-small : (c : tie.After-spot-size Inv-loop μ-loop) → c .spot-size .result ≤ 7
+spot-is-small c =
     let counted = c .before .before .before in
     let start = counted .before in
-    place-small (start .args .w) (start .args .first) (start .args .last) (start .pre .0) (start .pre .1)
-    (counted .named-rows .ensures) (c .before .loop-test .taken) (c .place-size .ensures)
+    spot-small (start .args .w) (start .args .first) (start .args .last) (start .pre .0) (start .pre .1)
+    (counted .row-count .ensures) (c .before .loop-test .taken) (c .spot-size .ensures)
 
 add-size : tie.Need-add-size Inv-loop μ-loop
-add-size c = record { fits = omega (arith, place-is-small c) }
+add-size c = record { fits = omega (arith, spot-is-small c) }
 
 add-size-2 : tie.Need-add-size-2 Inv-loop μ-loop
 add-size-2 c =
@@ -49,37 +43,24 @@ add-size-2 c =
     let counted = turn .before in
     let start = counted .before in
     let so-far = rows-small (start .args .w) (start .args .first) (start .args .last) (start .pre .0) (start .pre .1)
-    (counted .named-rows .ensures) (turn .loop .i) (turn .loop .inv .0) (start .pre .2)
-    in record { fits = omega (arith, place-is-small c, so-far, turn .loop .inv .1) }
-
-add-i : tie.Need-add-i Inv-loop μ-loop
-add-i c = search needs
-
-loop-less : tie.Need-loop-less Inv-loop μ-loop
-loop-less c = omega arith
+    (counted .row-count .ensures) (turn .loop .i) (turn .loop .inv .0) (start .pre .2)
+    in record { fits = omega (arith, spot-is-small c, so-far, turn .loop .inv .1) }
 
 loop-again : tie.Need-loop-again Inv-loop μ-loop
-loop-again c = (omega arith, size-more _ _ _ (c .before .before .loop .inv .1) (c .place-size .ensures))
+loop-again c = (omega arith, size-more _ _ _ (c .before .before .loop .inv .1) (c .spot-size .ensures))
 
 returns : tie.Need-returns Inv-loop μ-loop
 returns c =
     let turn = c .before in
     let all = size-all _ _ (turn .loop .inv .1) (turn .loop .inv .0) (c .loop-test .left) in
-    rw (turn .before .named-rows .ensures) at all
+    rw (turn .before .row-count .ensures) at all
 
 pub rows-size-spec : {M : Type 1} → statement M
-rows-size-spec =
-    tie.close
-    (tie.spec
-    Inv-loop
-    μ-loop
-    named-rows-requires
-    loop-holds
-    add-place-size
-    place-size-requires
-    add-size
-    add-size-2
-    add-i
-    loop-less
-    loop-again
-    returns)
+rows-size-spec = tie.close (tie.spec Inv-loop μ-loop
+    (λ c κs. search needs)  -- row-count-requires
+    loop-holds add-spot-size
+    (λ c κs. search needs)  -- spot-size-requires
+    add-size add-size-2
+    (λ c. search needs)  -- add-i
+    (λ c. omega arith)  -- loop-less
+    loop-again returns)

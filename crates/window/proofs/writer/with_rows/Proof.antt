@@ -1,5 +1,5 @@
 -- `with_rows` keeps its promise, by a walk of its MIR: the writer's buffer is lent to `put_rows`, comes back, and goes into the writer that is returned,
--- beside the place that `put_rows` answered. That writer has the buffer's lifetime, so nothing is said of the buffer's last bytes.
+-- beside the index that `put_rows` answered. That writer has the buffer's lifetime, so nothing is said of the buffer's last bytes.
 use mathlib.Core.Path.{refl}
 use mathlib.Core.List.{List, [], _∷_}
 use Prim.Native.Nat.{ℕ, _+_, _≤_, _<_, _^_}
@@ -36,15 +36,15 @@ use denote.Triple.Spec.{Meets, tripleOf}
 use denote.Triple.Statement.{Contract, Triple}
 use denote.Triple.Table.{entered, cited}
 use denote.Triple.Walked.{says, Stays, walkOf, ends-at, walked}
-use Rattle.gap.specs.Written.{Wrote}
+use Rattle.gap.specs.Wording.Written.{Wrote}
 use Rattle.gap.proofs.Laws.Writers.{wrote-length}
-use Rattle.window.specs.Sequences.{sentRows}
-use Rattle.window.specs.Writing.{RowsIn}
+use Rattle.window.specs.Rules.Sequences.{sentRows}
+use Rattle.window.specs.Wording.Writing.{RowsIn}
 use Rattle.window.proofs.Laws.Writer.{wrote-filled}
 use Rattle.window.proofs.Walks.Apart.{holding, slice, valueOf, called, apart, together}
 use Rattle.window.proofs.Walks.Held.{let-go, let-go-goes, number-quiet}
 use Rattle.window.proofs.Walks.LentAgain.{renamed, Lent, lend, back}
-use Rattle.window.proofs.Walks.Steps.{both-needed, both-said, promise, count, idle, arg, stores, stored, gone, counted, calls, keeps}
+use Rattle.window.proofs.Walks.Steps.{both-needed, both-said, promise, count, idle, passes-number, arg, stores, stored, gone, counted, calls, keeps}
 use Rattle.window.proofs.writer.Writer as T
 use Rattle.window.proofs.writer.Writer.Laws as T′
 use Rattle.window.proofs.sequences.put_rows as put-rows
@@ -132,8 +132,8 @@ module _ {M : Type 1} (𝓤 : URA M) (H : Heap 𝓤) (A : Atoms 𝓤) (W : Given
         alloc1 ! (λ l₀. alloc1 ! (λ l₁. alloc1 ! (λ l₂. alloc1 ! (λ l₃. alloc1 ! (λ l₄. alloc1 ! (λ l₅.
         alloc1 ! (λ l₆. alloc1 ! (λ l₇. alloc1 ! (λ l₈. alloc1 ! (λ l₉. alloc1 ! (λ l₁₀. alloc1 ! (λ l₁₁. alloc0 ! $ params1 ! $
         pass1 ! (init ! 20 refl (LL.lawful (T.the-type (called κ)) (T′.the-laws (called κ)) 𝓤 H A W .typed (holding out mark) _ is .0)) $
-        pass1 ! (init ! 18 refl (tt, record { fits = w-fits })) $ pass1 ! (init ! 16 refl (tt, record { fits = first-fits })) $
-        pass1 ! (init ! 14 refl (tt, record { fits = last-fits })) $ pass1 ! (init ! 12 refl (tt, (tt, (record { fits = screen-room .0 }, tt)))) $ pass0 ! $
+        passes-number ! 18 refl w-fits $ passes-number ! 16 refl first-fits $
+        passes-number ! 14 refl last-fits $ pass1 ! (init ! 12 refl (tt, (tt, (record { fits = screen-room .0 }, tt)))) $ pass0 ! $
         -- [_11; …; _10; …; _9; …; _8; …; _7; …; _6; …; _5 screen; …; _4 last; …; _3 first; …; _2 w; …; _1 the writer; …; _0; …; the tokens;
         -- what the parameters own]
         -- _6 = _1.1
@@ -185,8 +185,14 @@ meets 𝓤 H A W mem run 𝓣 known =
     (let-go-goes 𝓤 H A W 2 (with-rows.ended .signature .params) (with-rows.ended .kept)
     ((λ κs x end. emp∗ 𝓤 (emp 𝓤)), (quiet, (quiet, (quiet, ((λ κs x end. id⊢ 𝓤 (emp 𝓤)), tt))))))
     (walked 𝓤 H A with-rows.ended stayed (with-rows.clauses 𝓤 H A mem run) (WpFn 𝓤 H (𝓣 .C) (𝓣 .Λ) code.function)
-    (λ κs. (LL.vals (T.the-type (namedLft 2 0 tt κs)) (T′.the-laws (namedLft 2 0 tt κs)), (uint-vals w64, (uint-vals w64, (uint-vals w64, (slice-vals, tt))))))
-    (λ κs. (LL.tells (T.the-type (namedLft 2 0 tt κs)) (T′.the-laws (namedLft 2 0 tt κs)), (tells, (tells, (tells, (shr-slice-tells (named 1) (κs .1 .0) u8, tt))))))
+    (λ κs. (
+      LL.vals (T.the-type (namedLft 2 0 tt κs)) (T′.the-laws (namedLft 2 0 tt κs)),
+      (uint-vals w64, (uint-vals w64, (uint-vals w64, (slice-vals, tt)))),
+    ))
+    (λ κs. (
+      LL.tells (T.the-type (namedLft 2 0 tt κs)) (T′.the-laws (namedLft 2 0 tt κs)),
+      (tells, (tells, (tells, (shr-slice-tells (named 1) (κs .1 .0) u8, tt)))),
+    ))
     (λ κs qs bounds a g are. both-needed 𝓤 (RowsIn (a .1 .0) (a .1 .1 .0) (a .1 .1 .1 .0) (a .1 .1 .1 .1 .0 .now))
     (a .0 .at + length (sentRows (a .1 .0) (a .1 .1 .0) (a .1 .1 .1 .0) (a .1 .1 .1 .1 .0 .now)) ≤ length (a .0 .out .now)) _ (λ inside fits.
     let fields = LL.owed (T.the-type (namedLft 2 0 tt κs)) (T′.the-laws (namedLft 2 0 tt κs)) (a .0) _ (are .0) in

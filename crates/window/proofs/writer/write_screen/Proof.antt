@@ -1,4 +1,4 @@
--- `write_screen` keeps its promise, by a walk of its MIR: an empty writer is made, takes the rows and then the place. All that is known of the three
+-- `write_screen` keeps its promise, by a walk of its MIR: an empty writer is made, takes the rows and then the spot. All that is known of the three
 -- functions is what they promise. The first two return a writer that is known whole, so what the third says of the last bytes is said of the buffer
 -- that was lent.
 use mathlib.Core.Path.{_≡_, refl}
@@ -38,15 +38,15 @@ use denote.Triple.Spec.{Meets, tripleOf}
 use denote.Triple.Statement.{Contract, Triple}
 use denote.Triple.Table.{entered, cited}
 use denote.Triple.Walked.{says, Stay, Stays, stay-dropped, gave-slice, goes-gave-slice, Goes, walkOf, ends-at, walked}
-use Rattle.gap.specs.Written.{Wrote}
+use Rattle.gap.specs.Wording.Written.{Wrote}
 use Rattle.gap.proofs.Laws.Writers.{wrote-length}
 use Rattle.window.specs.declared.writer.Writer.{Writer}
-use Rattle.window.specs.Sequences.{placed, sentRows}
-use Rattle.window.specs.Writing.{RowsIn, filled}
+use Rattle.window.specs.Rules.Sequences.{sentSpot, sentRows}
+use Rattle.window.specs.Wording.Writing.{RowsIn, filled}
 use Rattle.window.proofs.Laws.Writer.{first-run-fits, second-run-fits, both-runs}
 use Rattle.window.proofs.Walks.Apart.{holding, slice, called}
 use Rattle.window.proofs.Walks.Held.{dropped-goes, number-quiet}
-use Rattle.window.proofs.Walks.Steps.{both-needed, both-said, promise, count, idle, arg, stores, stored, gone, counted, calls, keeps}
+use Rattle.window.proofs.Walks.Steps.{both-needed, both-said, promise, count, idle, passes-number, arg, stores, stored, gone, counted, calls, keeps}
 use Rattle.window.proofs.writer.Writer as T
 use Rattle.window.proofs.writer.Writer.Laws as T′
 use Rattle.window.proofs.writer.at_front as at-front
@@ -57,10 +57,10 @@ use Rattle.window.proofs.writer.with_rows as with-rows
 use Rattle.window.proofs.writer.with_rows.Symbol as with-rows-def
 use Rattle.window.proofs.writer.with_rows.Symbol.{name as #with-rows}
 use Rattle.window.proofs.writer.with_rows.Met as with-rows-thm
-use Rattle.window.proofs.writer.with_place as with-place
-use Rattle.window.proofs.writer.with_place.Symbol as with-place-def
-use Rattle.window.proofs.writer.with_place.Symbol.{name as #with-place}
-use Rattle.window.proofs.writer.with_place.Met as with-place-thm
+use Rattle.window.proofs.writer.with_spot as with-spot
+use Rattle.window.proofs.writer.with_spot.Symbol as with-spot-def
+use Rattle.window.proofs.writer.with_spot.Symbol.{name as #with-spot}
+use Rattle.window.proofs.writer.with_spot.Met as with-spot-thm
 use Rattle.window.proofs.writer.write_screen as write-screen
 use Rattle.window.proofs.writer.write_screen.Key.{name as #write-screen}
 use Rattle.window.proofs.writer.write_screen.Statement as stated
@@ -81,19 +81,19 @@ module _ {M : Type 1} (𝓤 : URA M) (H : Heap 𝓤) (A : Atoms 𝓤) (mem : Mem
   abbrev WithRows : Contract 𝓤
   WithRows = promise 𝓤 H A with-rows.ended (with-rows.clauses 𝓤 H A mem run)
 
-  abbrev WithPlace : Contract 𝓤
-  WithPlace = promise 𝓤 H A with-place.ended (with-place.clauses 𝓤 H A mem run)
+  abbrev WithSpot : Contract 𝓤
+  WithSpot = promise 𝓤 H A with-spot.ended (with-spot.clauses 𝓤 H A mem run)
 
 -- μ and s are the screen's lifetime and share, κ and q the buffer's.
 module _ {M : Type 1} (𝓤 : URA M) (H : Heap 𝓤) (A : Atoms 𝓤) (W : Given 𝓤 H A) (mem : Memory → SProp 𝓤) (run : Routine → Fun 𝓤) (μ κ : Lft) (s q : Share)
     (w first last row column : ℕ) (screen out : RefT (List ℕ)) (w-fits : w < 2 ^ 64) (first-fits : first < 2 ^ 64) (last-fits : last < 2 ^ 64)
     (row-fits : row < 2 ^ 64) (column-fits : column < 2 ^ 64)
-    (inside : RowsIn w first last (screen .now)) (fits : length (sentRows w first last (screen .now) ++ placed row column) ≤ length (out .now)) where
+    (inside : RowsIn w first last (screen .now)) (fits : length (sentRows w first last (screen .now) ++ sentSpot row column) ≤ length (out .now)) where
   abbrev rows : List ℕ
   rows = sentRows w first last (screen .now)
 
   abbrev spot : List ℕ
-  spot = placed row column
+  spot = sentSpot row column
 
   -- The writer that `at_front` returns, and the one that `with_rows` returns.
   abbrev empty : Writer
@@ -151,15 +151,15 @@ module _ {M : Type 1} (𝓤 : URA M) (H : Heap 𝓤) (A : Atoms 𝓤) (W : Given
       nothing ! $ move ! (2 ∷ 0 ∷ []) $ fjoin ! $ count ! last last-fits $ fjoin ! $ count ! first first-fits $ fjoin ! $ count ! w w-fits $ fjoin ! $
       move ! (1 ∷ 0 ∷ []) $ fjoin ! $ done !
 
-  abbrev to-with-place : Val → WithPlace 𝓤 H A mem run .Ghost
-  to-with-place v = (((κ, tt), (q, tt), tt, (half, (row, (column, tt))), (v ∷ [], (vint w64 row ∷ [], (vint w64 column ∷ [], tt)))), tt)
+  abbrev to-with-spot : Val → WithSpot 𝓤 H A mem run .Ghost
+  to-with-spot v = (((κ, tt), (q, tt), tt, (half, (row, (column, tt))), (v ∷ [], (vint w64 row ∷ [], (vint w64 column ∷ [], tt)))), tt)
 
-  abbrev ForPlace : Val → List (Item 𝓤)
-  ForPlace v = (‵ (flft κ q) ⊛ ‵ ftrue) ∷ ‵ (T.the-row (called κ) .own half (v ∷ [])) ∷ []
+  abbrev ForSpot : Val → List (Item 𝓤)
+  ForSpot v = (‵ (flft κ q) ⊛ ‵ ftrue) ∷ ‵ (T.the-row (called κ) .own half (v ∷ [])) ∷ []
 
-  asked-place : (v : Val) → ent 𝓤 (⋆ 𝓤 H A (ForPlace v)) (WithPlace 𝓤 H A mem run .pre (to-with-place v))
-  asked-place v =
-      qed W (ForPlace v) ∵ says ! (second-run-fits rows spot (out .now) fits) $ frame ! $
+  asked-spot : (v : Val) → ent 𝓤 (⋆ 𝓤 H A (ForSpot v)) (WithSpot 𝓤 H A mem run .pre (to-with-spot v))
+  asked-spot v =
+      qed W (ForSpot v) ∵ says ! (second-run-fits rows spot (out .now) fits) $ frame ! $
       -- [the writer]
       nothing ! $ count ! column column-fits $ fjoin ! $ count ! row row-fits $ fjoin ! $ move ! (1 ∷ 0 ∷ []) $ fjoin ! $ done !
 
@@ -178,7 +178,7 @@ module _ {M : Type 1} (𝓤 : URA M) (H : Heap 𝓤) (A : Atoms 𝓤) (W : Given
 
   module _ (C : Calls 𝓤 H) (Λ : Loops 𝓤 H) (fm : FmC 𝓤 H (W .laws) C)
       (front : Triple 𝓤 (C #at-front) (AtFront 𝓤 H A mem run)) (the-rows : Triple 𝓤 (C #with-rows) (WithRows 𝓤 H A mem run))
-      (the-place : Triple 𝓤 (C #with-place) (WithPlace 𝓤 H A mem run)) where
+      (the-spot : Triple 𝓤 (C #with-spot) (WithSpot 𝓤 H A mem run)) where
     walk : Room u8 (length (screen .now)) → Room u8 (length (out .now)) → ent 𝓤 (onEntry 𝓤 H A write-screen.signature κs qs passed values)
         (WpFn 𝓤 H C Λ code.function (vint w64 w ∷ vint w64 first ∷ vint w64 last ∷ vint w64 row ∷ vint w64 column ∷ slice screen ∷ slice out ∷ []) Post)
     walk screen-room room =
@@ -187,9 +187,9 @@ module _ {M : Type 1} (𝓤 : URA M) (H : Heap 𝓤) (A : Atoms 𝓤) (W : Given
         enter ! C Λ code.function (vint w64 w ∷ vint w64 first ∷ vint w64 last ∷ vint w64 row ∷ vint w64 column ∷ slice screen ∷ slice out ∷ []) _ $
         alloc1 ! (λ l₀. alloc1 ! (λ l₁. alloc1 ! (λ l₂. alloc1 ! (λ l₃. alloc1 ! (λ l₄. alloc1 ! (λ l₅.
         alloc1 ! (λ l₆. alloc1 ! (λ l₇. alloc1 ! (λ l₈. alloc1 ! (λ l₉. alloc1 ! (λ l₁₀. alloc1 ! (λ l₁₁. alloc0 ! $ params1 ! $
-        pass1 ! (init ! 20 refl (tt, record { fits = w-fits })) $ pass1 ! (init ! 18 refl (tt, record { fits = first-fits })) $
-        pass1 ! (init ! 16 refl (tt, record { fits = last-fits })) $ pass1 ! (init ! 14 refl (tt, record { fits = row-fits })) $
-        pass1 ! (init ! 12 refl (tt, record { fits = column-fits })) $ pass1 ! (init ! 10 refl (tt, (tt, (record { fits = screen-room .0 }, tt)))) $
+        passes-number ! 20 refl w-fits $ passes-number ! 18 refl first-fits $
+        passes-number ! 16 refl last-fits $ passes-number ! 14 refl row-fits $
+        passes-number ! 12 refl column-fits $ pass1 ! (init ! 10 refl (tt, (tt, (record { fits = screen-room .0 }, tt)))) $
         pass1 ! (init ! 8 refl (tt, (tt, (record { fits = room .0 }, tt)))) $ pass0 ! $
         -- [_11; …; _10; …; _9; …; _8; …; _7 out; …; _6 screen; …; _5 column; …; _4 row; …; _3 last; …; _2 first; …; _1 w; …; _0; …; the tokens;
         -- what the parameters own]
@@ -219,9 +219,9 @@ module _ {M : Type 1} (𝓤 : URA M) (H : Heap 𝓤) (A : Atoms 𝓤) (W : Given
         -- [the writer with the rows; the tokens; nothing more; _11; …; _0; …]
         stored ! 9 refl (typed half v₁ is₁) $
         move ! (1 ∷ []) $ use1 W (‵ (flft κ q) ⊛ ‵ (flft μ s) ⊛ ‵ ftrue) (id⊢ 𝓤 _) $ split3 ! $ move ! (0 ∷ 2 ∷ []) $ join ! $
-        move ! (0 ∷ 2 ∷ []) $ use2 W (raw (WithPlace 𝓤 H A mem run .pre (to-with-place v₁))) (asked-place v₁) $
-        -- _0 = with_place(_8, _4, _5)
-        calls ! fm with-place.ended (with-place.clauses 𝓤 H A mem run) the-place (to-with-place v₁)
+        move ! (0 ∷ 2 ∷ []) $ use2 W (raw (WithSpot 𝓤 H A mem run .pre (to-with-spot v₁))) (asked-spot v₁) $
+        -- _0 = with_spot(_8, _4, _5)
+        calls ! fm with-spot.ended (with-spot.clauses 𝓤 H A mem run) the-spot (to-with-spot v₁)
         (arg ! 9 refl (arg ! 17 refl (arg ! 15 refl (no-more !)))) (λ v next ends.
         heard ! (Wrote (half .at) spot (half .out .now) next (ends .0 .0)) (λ wrote.
         fsplit ! $ fsplit ! $ fsplit ! $ move ! (5 ∷ []) $ counted ! next v (λ next-fits.
@@ -235,9 +235,9 @@ module _ {M : Type 1} (𝓤 : URA M) (H : Heap 𝓤) (A : Atoms 𝓤) (W : Given
 
 meets : {M : Type 1} (𝓤 : URA M) (H : Heap 𝓤) (A : Atoms 𝓤) (W : Given 𝓤 H A) (mem : Memory → SProp 𝓤) (run : Routine → Fun 𝓤) (𝓣 : Tables 𝓤 H)
     → Triple 𝓤 (𝓣 .C #at-front) (AtFront 𝓤 H A mem run) → Triple 𝓤 (𝓣 .C #with-rows) (WithRows 𝓤 H A mem run)
-    → Triple 𝓤 (𝓣 .C #with-place) (WithPlace 𝓤 H A mem run)
+    → Triple 𝓤 (𝓣 .C #with-spot) (WithSpot 𝓤 H A mem run)
     → Meets 𝓤 H A write-screen.signature (WpFn 𝓤 H (𝓣 .C) (𝓣 .Λ) code.function) (write-screen.spec 𝓤 H A mem run)
-meets 𝓤 H A W mem run 𝓣 front the-rows the-place =
+meets 𝓤 H A W mem run 𝓣 front the-rows the-spot =
     let tells = uint-tells w64 in
     let number-goes : Goes 𝓤 H A W 2 (plain (λ _. usize)) yes number = dropped-goes 𝓤 H A W 2 (plain (λ _. usize)) yes (number-quiet 𝓤 H A W 2) in
     let screen-goes : Goes 𝓤 H A W 2 (shrSlice 0 tt (λ _. u8)) yes (stay-dropped (shrSlice 0 tt (λ _. u8)) yes) =
@@ -248,12 +248,12 @@ meets 𝓤 H A W mem run 𝓣 front the-rows the-place =
     (λ κs. (uint-vals w64, (uint-vals w64, (uint-vals w64, (uint-vals w64, (uint-vals w64, (slice-vals, (slice-vals, tt))))))))
     (λ κs. (tells, (tells, (tells, (tells, (tells, (shr-slice-tells (named 0) (κs .0) u8, (mut-slice-tells (named 1) (κs .1 .0) u8, tt))))))))
     (λ κs qs bounds a g are. both-needed 𝓤 (RowsIn (a .0) (a .1 .0) (a .1 .1 .0) (a .1 .1 .1 .1 .1 .0 .now))
-    (length (sentRows (a .0) (a .1 .0) (a .1 .1 .0) (a .1 .1 .1 .1 .1 .0 .now) ++ placed (a .1 .1 .1 .0) (a .1 .1 .1 .1 .0))
+    (length (sentRows (a .0) (a .1 .0) (a .1 .1 .0) (a .1 .1 .1 .1 .1 .0 .now) ++ sentSpot (a .1 .1 .1 .0) (a .1 .1 .1 .1 .0))
     ≤ length (a .1 .1 .1 .1 .1 .1 .0 .now)) _ (λ inside fits.
     walk 𝓤 H A W mem run (κs .0) (κs .1 .0) (qs .0) (qs .1 .0)
     (a .0) (a .1 .0) (a .1 .1 .0) (a .1 .1 .1 .0) (a .1 .1 .1 .1 .0) (a .1 .1 .1 .1 .1 .0) (a .1 .1 .1 .1 .1 .1 .0)
     (are .0 .1) (are .1 .0 .1) (are .1 .1 .0 .1) (are .1 .1 .1 .0 .1) (are .1 .1 .1 .1 .0 .1) inside fits
-    (𝓣 .C) (𝓣 .Λ) (fmOf 𝓤 H (W .laws) 𝓣) front the-rows the-place (are .1 .1 .1 .1 .1 .0 .0 .1) (are .1 .1 .1 .1 .1 .1 .0 .0 .1))))
+    (𝓣 .C) (𝓣 .Λ) (fmOf 𝓤 H (W .laws) 𝓣) front the-rows the-spot (are .1 .1 .1 .1 .1 .0 .0 .1) (are .1 .1 .1 .1 .1 .1 .0 .0 .1))))
 
 pub write-screen-spec : {M : Type 1} → stated.statement M
 unfolding code.routine tablesOf
@@ -265,5 +265,5 @@ write-screen-spec 𝓤 H 𝓜 𝓖 𝓡 =
     (at-front-thm.met 𝓤 H 𝓜 𝓖 𝓡))
     (cited 𝓤 H (WithRows 𝓤 H (𝓖 .A) (𝓜 .mem) (𝓡 .run)) 𝓜 𝓡 code.env #with-rows with-rows-def.routine code.calls-window·writer·with-rows
     (with-rows-thm.met 𝓤 H 𝓜 𝓖 𝓡))
-    (cited 𝓤 H (WithPlace 𝓤 H (𝓖 .A) (𝓜 .mem) (𝓡 .run)) 𝓜 𝓡 code.env #with-place with-place-def.routine code.calls-window·writer·with-place
-    (with-place-thm.met 𝓤 H 𝓜 𝓖 𝓡)))
+    (cited 𝓤 H (WithSpot 𝓤 H (𝓖 .A) (𝓜 .mem) (𝓡 .run)) 𝓜 𝓡 code.env #with-spot with-spot-def.routine code.calls-window·writer·with-spot
+    (with-spot-thm.met 𝓤 H 𝓜 𝓖 𝓡)))

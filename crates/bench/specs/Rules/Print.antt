@@ -1,0 +1,39 @@
+-- What is printed. (01, the bench program: blocks.)
+use mathlib.Core.Path.{_≡_}
+use Prim.Native.Nat.{_≤_}
+use Rattle.bench.specs.Words.{List, [], _∷_, _++_, cond, ℕ, zero, suc, _*_, eqb, length, take, drop}
+use Rattle.gap.specs.Rules.Strings.{bytes}
+use Rattle.gap.specs.Rules.Lines.{newline}
+use Rattle.gap.specs.Rules.Numbers.{bit}
+use Rattle.gap.specs.Rules.Fields.{entry}
+use Rattle.window.specs.declared.Answer.{Answer}
+
+-- H entries of W cells each, trailing spaces included.
+unfoldable pub rowsOf : ℕ → ℕ → List ℕ → List ℕ
+rowsOf zero W screen = []
+rowsOf (suc h) W screen = bytes "line=" ++ (take W screen ++ (newline ∷ rowsOf h W (drop W screen)))
+
+unfoldable pub acceptedBlock : ℕ → ℕ → Answer → List ℕ → List ℕ
+acceptedBlock H W a screen =
+    entry (bytes "code=") 0
+    ++ (entry (bytes "steps=") (a .report .steps)
+    ++ (entry (bytes "bell=") (bit (a .report .bell))
+    ++ (entry (bytes "first=") (a .first)
+    ++ (entry (bytes "last=") (a .last)
+    ++ (entry (bytes "row=") (a .row) ++ (entry (bytes "col=") (a .column) ++ rowsOf H W screen))))))
+
+unfoldable pub refusedBlock : ℕ → ℕ → List ℕ
+refusedBlock code place = entry (bytes "code=") code ++ entry (bytes "place=") place
+
+-- 01, the bench program: the full block where the code is 0, else code and place only.
+unfoldable pub block : ℕ → ℕ → Answer → List ℕ → List ℕ
+block H W a screen = cond (eqb (a .code) 0) (acceptedBlock H W a screen) (refusedBlock (a .code) (a .place))
+
+unfoldable pub scriptLine : ℕ → List ℕ
+scriptLine n = entry (bytes "script=") n
+
+-- A screen that can be printed: as many rows and columns as tabled.
+pub record Printable (h w : ℕ) (screen : List ℕ) : Type 0 where
+  pub rows : h ≤ 64
+  pub columns : w ≤ 256
+  pub long : length screen ≡ h * w

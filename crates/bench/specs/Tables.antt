@@ -1,0 +1,2 @@
+-- Worked examples, computed through the definitions.
+pub mod Samples

@@ -1,0 +1,219 @@
+-- Laws of keys on one side: how such a key ends, refused or done, and what each edit makes of the sizes that a side has.
+use mathlib.Core.Path.{_≡_, refl, sym, ap, _∙_}
+use mathlib.Core.Bool.{Bool}
+use mathlib.Core.List.{List, [], _∷_}
+use Prim.Native.Nat.{ℕ, _+_, _-_, _≤_, _<_}
+use native.Mathlib.Nat.{sub-zero}
+use native.Mathlib.Omega.{arith}
+use lib.ListN.{length, length-append, length-take, length-drop}
+use lib.Seq.{length-take-le}
+use borrow.Author.Tests.{le-leb, lt-leb}
+use Rattle.gap.specs.Rules.Sequence.{part, zeros}
+use Rattle.gap.specs.Rules.Doc.{Doc, content, room, move, delete, times, passed, removed, splice}
+use Rattle.gap.specs.Rules.Nearest.{distance}
+use Rattle.gap.specs.Rules.Layout.{gapped, paired, ungap, unpair, IsGap}
+use Rattle.gap.proofs.Laws.Tests.{cond-true, cond-false}
+use Rattle.gap.proofs.Laws.Sequence.{length-part}
+use Rattle.gap.proofs.Laws.Doc.{deletions-left, deletions-right, insertions, length-moves, room-moves, room-behind}
+use Rattle.gap.proofs.Laws.Layout.{length-left, length-right}
+use Rattle.editor.specs.Words.{Direction, Left, Right, Search, Reached, Nowhere, Action, Move, Delete, Place, Sizes, Report}
+use Rattle.editor.specs.declared.SideReply.{SideReply}
+use Rattle.editor.specs.Rules.Plain.{Side, quiet, rang, went, Did, reporting}
+use Rattle.gap.proofs.Laws.Nearest.{reached-least}
+use Rattle.editor.specs.Rules.Keys.{inserted, carried, function, recalled}
+use Rattle.editor.specs.Rules.Places.{isAt}
+use Rattle.editor.specs.Rules.Bytes.{sizesOf}
+use Rattle.editor.specs.Wording.Promise.{roomOf, movedBy, OnSide, sideHeld, fullReply, doneReply, written, EditsSide}
+
+module _ (n : Sizes) (text recall : List ℕ) (did : Did Side) where
+  abbrev finished : Doc
+  finished = did .state .text
+
+  -- A finished text that is longer than its store is refused: everything is as it was.
+  pub refused : {t : SideReply} → t ≡ fullReply n → length text < length (finished .l) + length (finished .r)
+      → record { reply = t; text = text; recall = recall } ≡ written n text recall did
+  unfolding written
+  refused e long =
+      let over : length text < length (content finished) = rw length-append long in
+      (λ i. record { reply = e i; text = text; recall = recall }) ∙ sym (cond-false _ _ (lt-leb _ _ over))
+
+  -- One that fits lands in the store, as the recall text does in its own, and the sizes are their lengths.
+  pub landed : {t : SideReply} {report : Report} {m : Sizes} {textThen recallThen : List ℕ} → t ≡ doneReply report m → report ≡ did .report
+      → length (finished .l) + length (finished .r) ≤ length text → m ≡ sizesOf (did .state)
+      → textThen ≡ gapped (length text) finished → recallThen ≡ paired (length recall) (did .state .recall)
+      → record { reply = t; text = textThen; recall = recallThen } ≡ written n text recall did
+  unfolding written
+  landed reply said fits sizes text-then recall-then =
+      let within : length (content finished) ≤ length text = rw length-append fits in
+      let replied : _ ≡ doneReply (did .report) (sizesOf (did .state)) = reply ∙ λ i. doneReply (said i) (sizes i) in
+      (λ i. record { reply = replied i; text = text-then i; recall = recall-then i })
+      ∙ sym (cond-true _ _ (le-leb _ _ within))
+
+same-sizes : {a b c d e f g h : ℕ} → a ≡ b → c ≡ d → e ≡ f → g ≡ h
+    → _≡_ {A = Sizes} (record { l = a; r = c; rl = e; rr = g }) (record { l = b; r = d; rl = f; rr = h })
+same-sizes l r rl rr = λ i. record { l = l i; r = r i; rl = rl i; rr = rr i }
+
+-- The recall text does not count for the room of a move.
+pub room-of : (way : Direction) (n : Sizes) → roomOf way n ≡ roomOf way (record { l = n .l; r = n .r; rl = 0; rr = 0 })
+room-of Left n = refl
+room-of Right n = refl
+
+-- The sizes after d deletions.
+abbrev pub deletedBy : Direction → ℕ → Sizes → Sizes
+deletedBy Left d n = record { l = n .l - d; r = n .r; rl = d; rr = 0 }
+deletedBy Right d n = record { l = n .l; r = n .r - d; rl = 0; rr = d }
+
+deletions-shorten : (way : Direction) (d : ℕ) (n : Sizes) → deletedBy way d n .l + deletedBy way d n .r ≤ n .l + n .r
+deletions-shorten Left d n = omega arith
+deletions-shorten Right d n = omega arith
+
+-- A pair goes in around the cursor: so do insertion and RECALL.
+abbrev entered : Doc → Side → Did Side
+entered x s = reporting quiet (record { text = splice 0 0 x (s .text); recall = s .recall })
+
+abbrev single : ℕ → Doc
+single b = record { l = b ∷ []; r = [] }
+
+-- A distance that was found is within the room.
+room-held : (n : Sizes) {text : List ℕ} → IsGap (n .l) (n .r) text → (way : Direction) → roomOf way n ≡ room way (ungap (n .l) (n .r) text)
+room-held n gap Left = sym (length-left _ _ _ (gap .fits))
+room-held n gap Right = sym (length-right _ _ _ (gap .fits))
+
+pub within-room : (n : Sizes) {text : List ℕ} → IsGap (n .l) (n .r) text → (way : Direction) (place : Doc → Bool) {found : Search} {d : ℕ}
+    → found ≡ distance way place (ungap (n .l) (n .r) text) → found ≡ Reached d → d ≤ roomOf way n
+unfolding distance
+within-room n gap way place {d = d} e told = omega (arith, room-held n gap way, reached-least _ _ 1 d (sym e ∙ told) .within)
+
+-- Two stores that hold a side.
+module _ {n : Sizes} {text recall : List ℕ} (on : OnSide n text recall) where
+  abbrev doc : Doc
+  doc = ungap (n .l) (n .r) text
+
+  abbrev pair : Doc
+  pair = unpair (n .rl) (n .rr) recall
+
+  left : length (doc .l) ≡ n .l
+  left = length-left _ _ _ (on .gap .fits)
+
+  right : length (doc .r) ≡ n .r
+  right = length-right _ _ _ (on .gap .fits)
+
+  first : length (pair .l) ≡ n .rl
+  unfolding unpair
+  first = length-take-le (n .rl) recall (omega (arith, on .pair .fits))
+
+  second : length (pair .r) ≡ n .rr
+  unfolding unpair part
+  second = length-part (n .rl) (n .rr) recall (on .pair .fits)
+
+  held-fits : length (doc .l) + length (doc .r) ≤ length text
+  held-fits = rw (left, right) (on .gap .fits)
+
+  -- ---- Insertion and RECALL
+
+  module _ (x : Doc) where
+    entered-left : length (splice 0 0 x doc .l) ≡ n .l + length (x .l)
+    entered-left = rw (insertions, length-append, left)
+
+    entered-right : length (splice 0 0 x doc .r) ≡ n .r + length (x .r)
+    entered-right = rw (insertions, length-append, right) (omega arith)
+
+    enters-not : {t : SideReply} → t ≡ fullReply n → length text < n .l + n .r + (length (x .l) + length (x .r))
+        → EditsSide t n (entered x) text recall text recall
+    enters-not e long = refused n text recall _ e (rw (entered-left, entered-right) (omega arith))
+
+    enters : {t : SideReply} {report : Report} {l r : ℕ} {textThen : List ℕ} → t ≡ doneReply report (record { l = l; r = r; rl = n .rl; rr = n .rr })
+        → report ≡ quiet → l + r ≤ length text → l ≡ n .l + length (x .l) → r ≡ n .r + length (x .r)
+        → textThen ≡ gapped (length text) (splice 0 0 x doc) → EditsSide t n (entered x) text recall textThen recall
+    enters reply said fits l r store =
+        landed n text recall _ reply said (rw (entered-left, entered-right) (omega arith))
+        (same-sizes (l ∙ sym entered-left) (r ∙ sym entered-right) (sym first) (sym second)) store (sym (on .pair .holds))
+
+  pub insert-refused : (b : ℕ) {t : SideReply} → t ≡ fullReply n → length text ≤ n .l + n .r → EditsSide t n (inserted b) text recall text recall
+  unfolding inserted
+  insert-refused b e full = enters-not (single b) e (omega arith)
+
+  pub insert-done : (b : ℕ) {t : SideReply} {report : Report} {textThen : List ℕ}
+      → t ≡ doneReply report (record { l = n .l + 1; r = n .r; rl = n .rl; rr = n .rr }) → report ≡ quiet → n .l + n .r < length text
+      → textThen ≡ gapped (length text) (splice 0 0 (single b) doc) → EditsSide t n (inserted b) text recall textThen recall
+  unfolding inserted
+  insert-done b reply said room store = enters (single b) reply said (omega arith) refl (omega arith) store
+
+  pub recall-refused : {t : SideReply} → t ≡ fullReply n → length text - (n .l + n .r) < n .rl + n .rr
+      → EditsSide t n recalled text recall text recall
+  unfolding recalled
+  recall-refused e full = enters-not pair e (rw (first, second) (omega arith))
+
+  pub recall-done : {t : SideReply} {report : Report} {textThen : List ℕ}
+      → t ≡ doneReply report (record { l = n .l + n .rl; r = n .r + n .rr; rl = n .rl; rr = n .rr }) → report ≡ quiet
+      → n .rl + n .rr ≤ length text - (n .l + n .r) → textThen ≡ gapped (length text) (splice 0 0 pair doc)
+      → EditsSide t n recalled text recall textThen recall
+  unfolding recalled
+  recall-done reply said room store = enters pair reply said (omega (arith, on .gap .fits)) (rw first) (rw second) store
+
+  -- ---- Moves and deletions of d bytes
+
+  moved-sizes : (way : Direction) (d : ℕ) → d ≤ roomOf way n
+      → movedBy way d n ≡ sizesOf (record { text = times (move way) d doc; recall = pair })
+  moved-sizes Left d h =
+      same-sizes (omega (arith, room-moves Left d doc, left)) (omega (arith, room-behind Left d doc (rw left h), right))
+      (sym first) (sym second)
+  moved-sizes Right d h =
+      same-sizes (omega (arith, room-behind Right d doc (rw right h), left)) (omega (arith, room-moves Right d doc, right))
+      (sym first) (sym second)
+
+  pub moved : (way : Direction) {d : ℕ} {t : SideReply} {report : Report} {m : Sizes} {textThen : List ℕ} → t ≡ doneReply report m
+      → report ≡ went d → d ≤ roomOf way n → m ≡ movedBy way d n → textThen ≡ gapped (length text) (times (move way) d doc)
+      → EditsSide t n (carried Move way (Reached d)) text recall textThen recall
+  unfolding carried
+  moved way {d} reply said h sizes store =
+      landed n text recall _ reply said (rw length-moves held-fits) (sizes ∙ moved-sizes way d h) store (sym (on .pair .holds))
+
+  deleted-sizes : (way : Direction) (d : ℕ) → d ≤ roomOf way n
+      → deletedBy way d n ≡ sizesOf (record { text = times (delete way) d doc; recall = removed way d doc })
+  unfolding splice removed passed
+  deleted-sizes Left d h =
+      rw deletions-left
+      (same-sizes (simp (length-append, length-take, left) (omega arith)) (sym right) (simp (length-drop, left) (omega arith)) refl)
+  deleted-sizes Right d h =
+      rw deletions-right
+      (same-sizes (simp (length-append, length-take, left) (omega arith)) (simp (length-drop, right))
+      refl (simp (length-take, right) (omega arith)))
+
+  pub deleted : (way : Direction) {d : ℕ} {t : SideReply} {report : Report} {m : Sizes} {textThen recallThen : List ℕ}
+      → t ≡ doneReply report m → report ≡ went d → d ≤ roomOf way n → m ≡ deletedBy way d n
+      → textThen ≡ gapped (length text) (times (delete way) d doc) → recallThen ≡ paired (length recall) (removed way d doc)
+      → EditsSide t n (carried Delete way (Reached d)) text recall textThen recallThen
+  unfolding carried
+  deleted way {d} reply said h sizes store taken =
+      let lengths = ap (λ m. m .l + m .r) (deleted-sizes way d h) in
+      landed n text recall _ reply said (omega (arith, lengths, deletions-shorten way d n, on .gap .fits)) (sizes ∙ deleted-sizes way d h) store taken
+
+  -- What d deletions take fits the recall store.
+  pub removed-fits : (way : Direction) {d : ℕ} → d ≤ roomOf way n → d ≤ length recall
+  removed-fits Left h = omega (arith, on .gap .fits, on .same)
+  removed-fits Right h = omega (arith, on .gap .fits, on .same)
+
+  -- ---- No place was found: a move leaves everything, a deletion empties the recall text
+
+  pub not-moved : (way : Direction) {t : SideReply} {report : Report} → t ≡ doneReply report n → report ≡ rang
+      → EditsSide t n (carried Move way Nowhere) text recall text recall
+  unfolding carried
+  not-moved way reply said =
+      landed n text recall _ reply said held-fits (same-sizes (sym left) (sym right) (sym first) (sym second))
+      (sym (on .gap .holds)) (sym (on .pair .holds))
+
+  pub not-deleted : (way : Direction) {t : SideReply} {report : Report} {recallThen : List ℕ}
+      → t ≡ doneReply report (record { l = n .l; r = n .r; rl = 0; rr = 0 }) → report ≡ rang → recallThen ≡ zeros (length recall)
+      → EditsSide t n (carried Delete way Nowhere) text recall text recallThen
+  unfolding carried paired
+  not-deleted way reply said cleared =
+      landed n text recall _ reply said held-fits (same-sizes (sym left) (sym right) refl refl) (sym (on .gap .holds)) (cleared ∙ rw sub-zero)
+
+  -- A function key does what it does at the distance that was found.
+  pub by-distance : (action : Action) (way : Direction) (place : Place) {t : SideReply} {found search : Search} {textThen recallThen : List ℕ}
+      → found ≡ distance way (isAt place way) doc → found ≡ search → EditsSide t n (carried action way search) text recall textThen recallThen
+      → EditsSide t n (function action way place) text recall textThen recallThen
+  unfolding function
+  by-distance action way place e told turns =
+      turns ∙ ap (λ s. written n text recall (carried action way s (sideHeld n text recall))) (sym told ∙ e)

@@ -1,0 +1,107 @@
+-- The plain state as record and stores: writing it down, reading it back, and the session test without the window's part.
+-- T is the length of the text store, Q that of a quarter of the side store.
+use Rattle.editor.specs.Words.{List, [], _++_, Bool, true, _&&_, _||_, ℕ, _*_, eqb, leb, length, Mode, Main, Quoted, Sizes, Lengths}
+use Rattle.gap.specs.Rules.Sequence.{part}
+use Rattle.gap.specs.Rules.Doc.{Doc}
+use Rattle.gap.specs.Rules.Layout.{gapped, paired, ungap, unpair, soundGap, soundPair}
+use Rattle.editor.specs.declared.EditorReply.{EditorReply}
+use Rattle.editor.specs.Rules.Plain.{Side, Plain, quiet, Outcome, refused, done}
+
+-- The stores that the editor works on; the screen is the window's.
+pub record Stores : Type 0 where
+  pub text : List ℕ
+  pub recall : List ℕ
+  pub side : List ℕ
+
+-- 01, stores: the length of a quarter.
+unfoldable pub quarter : ℕ
+quarter = 256
+
+-- The lengths that the three stores must have. (01, table of stores.)
+unfoldable pub sized : ℕ → Stores → Bool
+sized Q b =
+    (leb 1 (length (b .text)) && leb (length (b .text)) 65536)
+    && (eqb (length (b .recall)) (length (b .text)) && eqb (length (b .side)) (4 * Q))
+
+-- Quarter i of the side store: quotation 0, its recall text 1, pattern 2, replacement 3. (01, stores: side.)
+abbrev pub quarterOf : ℕ → ℕ → List ℕ → List ℕ
+quarterOf Q i side = part (i * Q) Q side
+
+-- The pattern is laid out as a pair that has no right half. (01, stores: pattern.)
+abbrev pub alone : List ℕ → Doc
+alone pattern = record { l = pattern; r = [] }
+
+-- Reading: the plain state that record and stores hold.
+unfoldable pub plainOf : ℕ → Lengths → Stores → Plain
+plainOf Q n b =
+    record {
+      main = record { text = ungap (n .main .l) (n .main .r) (b .text); recall = unpair (n .main .rl) (n .main .rr) (b .recall) };
+      quoted =
+          record {
+            text = ungap (n .quoted .l) (n .quoted .r) (quarterOf Q 0 (b .side));
+            recall = unpair (n .quoted .rl) (n .quoted .rr) (quarterOf Q 1 (b .side));
+          };
+      pattern = unpair (n .pl) 0 (quarterOf Q 2 (b .side)) .l;
+      replacement = unpair (n .xl) (n .xr) (quarterOf Q 3 (b .side));
+      mode = n .mode;
+    }
+
+-- Writing: the record's lengths, and the bytes. Nothing but the plain state, T and Q enters. (01, stores: same bytes.)
+abbrev pub sizesOf : Side → Sizes
+sizesOf s =
+    record { l = length (s .text .l); r = length (s .text .r); rl = length (s .recall .l); rr = length (s .recall .r) }
+
+unfoldable pub lengthsOf : Plain → Lengths
+lengthsOf p =
+    record {
+      main = sizesOf (p .main);
+      quoted = sizesOf (p .quoted);
+      xl = length (p .replacement .l);
+      xr = length (p .replacement .r);
+      pl = length (p .pattern);
+      mode = p .mode;
+    }
+
+unfoldable pub storesOf : ℕ → ℕ → Plain → Stores
+storesOf T Q p =
+    record {
+      text = gapped T (p .main .text);
+      recall = paired T (p .main .recall);
+      side =
+          gapped Q (p .quoted .text)
+          ++ (paired Q (p .quoted .recall) ++ (paired Q (alone (p .pattern)) ++ paired Q (p .replacement)));
+    }
+
+-- A recall text lies on one side only. (01, session: recall pair.)
+abbrev pub oneHalf : Sizes → Bool
+oneHalf n = eqb (n .rl) 0 || eqb (n .rr) 0
+
+-- Without QUOTED there is no quotation. (01, session: mode MAIN.)
+abbrev pub unquoted : Mode → Sizes → Bool
+unquoted Main n = (eqb (n .l) 0 && eqb (n .r) 0) && (eqb (n .rl) 0 && eqb (n .rr) 0)
+unquoted Quoted n = true
+
+-- All that a session asks but for the cursor on the screen. A replacement may have both halves. (01, session. DECISIONS B20.)
+unfoldable pub editorOk : ℕ → Lengths → Stores → Bool
+editorOk Q n b =
+    (soundGap (n .main .l) (n .main .r) (b .text) && soundPair (n .main .rl) (n .main .rr) (b .recall))
+    && ((soundGap (n .quoted .l) (n .quoted .r) (quarterOf Q 0 (b .side)) && soundPair (n .quoted .rl) (n .quoted .rr) (quarterOf Q 1 (b .side)))
+    && ((soundPair (n .pl) 0 (quarterOf Q 2 (b .side)) && soundPair (n .xl) (n .xr) (quarterOf Q 3 (b .side)))
+    && ((oneHalf (n .main) && oneHalf (n .quoted)) && unquoted (n .mode) (n .quoted))))
+
+-- What this layer's key call gives: its reply and the stores.
+pub record Edited : Type 0 where
+  pub reply : EditorReply
+  pub stores : Stores
+
+-- Refused, it gives back what it was given. (01, refusals: what a refusal leaves.)
+abbrev pub unedited : ℕ → Lengths → EditorReply
+unedited code n = record { code = code; report = quiet; lengths = n }
+
+abbrev pub editedTo : ℕ → Lengths → Stores → Outcome → Edited
+editedTo Q n b (refused code) = record { reply = unedited code n; stores = b }
+editedTo Q n b (done did) =
+    record {
+      reply = record { code = 0; report = did .report; lengths = lengthsOf (did .state) };
+      stores = storesOf (length (b .text)) Q (did .state);
+    }

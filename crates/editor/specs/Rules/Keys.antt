@@ -1,0 +1,176 @@
+-- The keys on the plain state. (01, plain editor, from the function keys on.)
+use Rattle.gap.specs.Rules.Checks.{Check, check, unless}
+use Rattle.editor.specs.Words.{List, [], _∷_, Bool, true, false, _&&_, cond, ℕ, leb, length}
+use Rattle.editor.specs.Words.{Direction, Left, Right, Search, Reached, Nowhere, Action, Move, Delete, Mode, Main, Quoted}
+use Rattle.editor.specs.Words.{Place, Character, Word, LineBeginning, LineEnding, Document}
+use Rattle.editor.specs.Words.{Key, Insert, Function, Recall, Quote, Find, Replace}
+use Rattle.gap.specs.Rules.Sequence.{begins}
+use Rattle.gap.specs.Rules.Doc.{Doc, empty, content, move, delete, times, removed, splice}
+use Rattle.gap.specs.Rules.Nearest.{distance}
+use Rattle.gap.specs.Rules.Layout.{allowed}
+use Rattle.editor.specs.Rules.Places.{isAt}
+use Rattle.editor.specs.Rules.Plain.{Side, emptySide, Plain, quiet, rang, went, Did, reporting, within, Outcome, refused, done}
+use Rattle.editor.specs.Rules.Refusals.{KEY, FULL}
+
+-- Of the twenty function keys two are never carried out. (01, refusals: KEY.)
+abbrev pub soundFunction : Action → Direction → Place → Bool
+soundFunction Move way place = true
+soundFunction Delete Left Character = true
+soundFunction Delete Left Word = true
+soundFunction Delete Left LineBeginning = true
+soundFunction Delete Left LineEnding = false
+soundFunction Delete Left Document = true
+soundFunction Delete Right Character = true
+soundFunction Delete Right Word = true
+soundFunction Delete Right LineBeginning = false
+soundFunction Delete Right LineEnding = true
+soundFunction Delete Right Document = true
+
+-- An insert must be of an allowed byte; all other keys are sound. (01, refusals: KEY.)
+unfoldable pub soundKey : Key → Bool
+soundKey (Insert b) = allowed b
+soundKey (Function action way place) = soundFunction action way place
+soundKey Recall = true
+soundKey Quote = true
+soundKey (Find way) = true
+soundKey Replace = true
+
+-- ---- Keys on one side
+
+-- The byte goes in before the cursor. (01, plain editor: insertion.)
+unfoldable pub inserted : ℕ → Side → Did Side
+inserted b s = reporting quiet (record { text = splice 0 0 (record { l = b ∷ []; r = [] }) (s .text); recall = s .recall })
+
+-- A function key at its distance: that many single steps. A deletion leaves what it took as recall text, even where it took nothing;
+-- a move leaves the recall text alone. Nowhere rings. (01, plain editor: distance, recall text. DECISIONS B4, B30.)
+unfoldable pub carried : Action → Direction → Search → Side → Did Side
+carried Move way (Reached n) s = reporting (went n) (record { text = times (move way) n (s .text); recall = s .recall })
+carried Move way Nowhere s = reporting rang s
+carried Delete way (Reached n) s =
+    reporting (went n) (record { text = times (delete way) n (s .text); recall = removed way n (s .text) })
+carried Delete way Nowhere s = reporting rang (record { text = s .text; recall = empty })
+
+unfoldable pub function : Action → Direction → Place → Side → Did Side
+function action way place s = carried action way (distance way (isAt place way) (s .text)) s
+
+-- The recall pair goes in around the cursor, and stays for the next time. (01, plain editor: RECALL.)
+unfoldable pub recalled : Side → Did Side
+recalled s = reporting quiet (record { text = splice 0 0 (s .recall) (s .text); recall = s .recall })
+
+-- The mode says which side these keys act on. (01, plain editor: QUOTED.)
+abbrev pub sideOf : Mode → Plain → Side
+sideOf Main p = p .main
+sideOf Quoted p = p .quoted
+
+abbrev pub withSide : Mode → Side → Plain → Plain
+withSide Main s p = record { main = s; quoted = p .quoted; pattern = p .pattern; replacement = p .replacement; mode = p .mode }
+withSide Quoted s p = record { main = p .main; quoted = s; pattern = p .pattern; replacement = p .replacement; mode = p .mode }
+
+unfoldable pub onSide : (Side → Did Side) → Plain → Did Plain
+onSide edit p = within (λ s. withSide (p .mode) s p) (edit (sideOf (p .mode) p))
+
+-- ---- Keys about the quotation
+
+-- QUOTE goes over to the other mode, with an empty quotation and recall text on either way. (01, plain editor: QUOTE.)
+abbrev pub otherMode : Mode → Mode
+otherMode Main = Quoted
+otherMode Quoted = Main
+
+unfoldable pub quoted : Plain → Did Plain
+quoted p =
+    reporting quiet
+    (record {
+      main = p .main;
+      quoted = emptySide;
+      pattern = p .pattern;
+      replacement = p .replacement;
+      mode = otherMode (p .mode);
+    })
+
+-- A quotation that ends in FIND or UPFIND becomes the pattern, wherever its cursor is; then it is cleared and the mode is MAIN.
+-- (01, plain editor: FIND. DECISIONS B8.)
+unfoldable pub withPattern : Mode → Plain → Plain
+withPattern Main p = p
+withPattern Quoted p =
+    record {
+      main = p .main;
+      quoted = emptySide;
+      pattern = content (p .quoted .text);
+      replacement = p .replacement;
+      mode = Main;
+    }
+
+-- Where the pattern lies right behind the cursor.
+abbrev pub matches : List ℕ → Doc → Bool
+matches pattern d = begins pattern (d .r)
+
+-- A search is a move of the document's cursor to the nearest match that is not here. (01, plain editor: search.)
+unfoldable pub searched : Direction → Plain → Did Plain
+searched way p =
+    within (λ s. withSide Main s p) (carried Move way (distance way (matches (p .pattern)) (p .main .text)) (p .main))
+
+unfoldable pub found : Direction → Plain → Did Plain
+found way p = searched way (withPattern (p .mode) p)
+
+-- A quotation that ends in REPLACE becomes the replacement, cut at its cursor; then as above. (01, plain editor: REPLACE.)
+unfoldable pub withReplacement : Mode → Plain → Plain
+withReplacement Main p = p
+withReplacement Quoted p =
+    record {
+      main = p .main;
+      quoted = emptySide;
+      pattern = p .pattern;
+      replacement = p .quoted .text;
+      mode = Main;
+    }
+
+-- At a match the pattern is exchanged for the replacement and becomes the recall text, to the right. Elsewhere the bell, and the
+-- document's side stays; what the quotation gave is kept all the same. (01, plain editor: REPLACE. DECISIONS B7.)
+unfoldable pub exchanged : Plain → Side
+exchanged p =
+    record {
+      text = splice 0 (length (p .pattern)) (p .replacement) (p .main .text);
+      recall = record { l = []; r = p .pattern };
+    }
+
+unfoldable pub substituted : Plain → Did Plain
+substituted p = cond (matches (p .pattern) (p .main .text)) (reporting quiet (withSide Main (exchanged p) p)) (reporting rang p)
+
+unfoldable pub replaced : Plain → Did Plain
+replaced p = substituted (withReplacement (p .mode) p)
+
+-- ---- A key
+
+-- What each key does where there is room for it.
+unfoldable pub pressed : Key → Plain → Did Plain
+pressed (Insert b) p = onSide (inserted b) p
+pressed (Function action way place) p = onSide (function action way place) p
+pressed Recall p = onSide recalled p
+pressed Quote p = quoted p
+pressed (Find way) p = found way p
+pressed Replace p = replaced p
+
+-- Room: the document has T bytes, the quotation Q. It is asked of the finished texts, so what a key gives back counts.
+-- (01, refusals: FULL. DECISIONS B12, B15.)
+unfoldable pub fits : ℕ → ℕ → Plain → Bool
+fits T Q p = leb (length (content (p .main .text))) T && leb (length (content (p .quoted .text))) Q
+
+-- What the finished texts are asked, in order.
+abbrev pub finishedChecks : ℕ → ℕ → Plain → List Check
+finishedChecks T Q p = check FULL (fits T Q p) ∷ []
+
+unfoldable pub bounded : ℕ → ℕ → Did Plain → Outcome
+bounded T Q did = unless (finishedChecks T Q (did .state)) refused (done did)
+
+-- KEY before anything of the key itself. (01, refusals: order.)
+unfoldable pub key : ℕ → ℕ → Key → Plain → Outcome
+key T Q k p = unless (check KEY (soundKey k) ∷ []) refused (bounded T Q (pressed k p))
+
+-- A list of keys; a refused one leaves the state as it was.
+abbrev pub after : Plain → Outcome → Plain
+after p (refused n) = p
+after p (done did) = did .state
+
+unfoldable pub keys : ℕ → ℕ → List Key → Plain → Plain
+keys T Q [] p = p
+keys T Q (k ∷ ks) p = keys T Q ks (after p (key T Q k p))

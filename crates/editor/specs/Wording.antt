@@ -1,0 +1,3 @@
+-- How the contracts of this layer's functions speak. No rule stands here.
+pub mod Promise
+pub mod Searches

@@ -1,0 +1,165 @@
+-- How the promises of this layer's functions speak: what they ask of lent stores, and their outcome as one value.
+use mathlib.Core.Path.{_≡_}
+use Prim.Native.Nat.{_≤_}
+use Rattle.editor.specs.Words.{List, Bool, true, false, cond, ℕ, _+_, _-_, _*_, leb, length, take, Direction, Left, Right, Search, Reached, Nowhere}
+use Rattle.editor.specs.Words.{Mode, Main, Quoted, Sizes, Lengths, Report}
+use Rattle.gap.specs.Rules.Sequence.{patch, zeros}
+use Rattle.gap.specs.Rules.Doc.{content}
+use Rattle.gap.specs.Rules.Layout.{gapped, paired, ungap, unpair, IsGap, IsPair}
+use Rattle.editor.specs.declared.Edit.{Edit}
+use Rattle.editor.specs.declared.Edit.the-variants as edits
+use Rattle.editor.specs.declared.SideReply.{SideReply}
+use Rattle.editor.specs.declared.EditorReply.{EditorReply}
+use Rattle.editor.specs.Rules.Refusals.{FULL}
+use Rattle.editor.specs.Rules.Plain.{Side, Plain, opening, quiet, Did, Outcome}
+use Rattle.editor.specs.Rules.Keys.{inserted, function, recalled, matches, substituted, fits}
+use Rattle.editor.specs.Rules.Bytes.{Stores, Edited, quarter, quarterOf, sized, sizesOf, plainOf, lengthsOf, storesOf, editorOk, unedited, editedTo}
+
+-- ---- One side
+
+-- How many moves there are by the sizes, and the sizes after d of them.
+abbrev pub roomOf : Direction → Sizes → ℕ
+roomOf Left n = n .l
+roomOf Right n = n .r
+
+abbrev pub movedBy : Direction → ℕ → Sizes → Sizes
+movedBy Left d n = record { l = n .l - d; r = n .r + d; rl = n .rl; rr = n .rr }
+movedBy Right d n = record { l = n .l + d; r = n .r - d; rl = n .rl; rr = n .rr }
+
+-- Two stores of one length hold a side with these sizes.
+pub record OnSide (n : Sizes) (text recall : List ℕ) : Type 0 where
+  pub gap : IsGap (n .l) (n .r) text
+  pub pair : IsPair (n .rl) (n .rr) recall
+  pub same : length recall ≡ length text
+
+abbrev pub sideHeld : Sizes → List ℕ → List ℕ → Side
+sideHeld n text recall = record { text = ungap (n .l) (n .r) text; recall = unpair (n .rl) (n .rr) recall }
+
+-- The replies of a key that is refused as full, and of one that is done.
+abbrev pub fullReply : Sizes → SideReply
+fullReply n = record { full = true; report = quiet; sizes = n }
+
+abbrev pub doneReply : Report → Sizes → SideReply
+doneReply report m = record { full = false; report = report; sizes = m }
+
+-- What a key on one side gives: its reply and the two stores.
+pub record SideEdited : Type 0 where
+  pub reply : SideReply
+  pub text : List ℕ
+  pub recall : List ℕ
+
+-- The edit's outcome written down, or everything as it was where the finished text exceeds its store.
+unfoldable pub written : Sizes → List ℕ → List ℕ → Did Side → SideEdited
+written n text recall did =
+    cond (leb (length (content (did .state .text))) (length text))
+    (record {
+      reply = doneReply (did .report) (sizesOf (did .state));
+      text = gapped (length text) (did .state .text);
+      recall = paired (length recall) (did .state .recall);
+    })
+    (record { reply = fullReply n; text = text; recall = recall })
+
+-- A function on one side does what the plain edit does: its reply and both stores are determined.
+abbrev pub EditsSide : SideReply → Sizes → (Side → Did Side) → (text recall textThen recallThen : List ℕ) → Type 0
+EditsSide t n edit text recall textThen recallThen =
+    record { reply = t; text = textThen; recall = recallThen } ≡ written n text recall (edit (sideHeld n text recall))
+
+-- One that is lent the text alone does the same, whatever recall text the side has: that stays.
+abbrev pub EditsText : SideReply → Sizes → (Side → Did Side) → (text textThen : List ℕ) → Type 0
+EditsText t n edit text textThen = (recall : List ℕ) → OnSide n text recall → EditsSide t n edit text recall textThen recall
+
+-- What each edit does on a side.
+abbrev pub editing : Edit → Side → Did Side
+editing (edits.Insert b) s = inserted b s
+editing (edits.Function action way place) s = function action way place s
+editing edits.Recall s = recalled s
+
+-- ---- All three stores
+
+-- Stores as tabled that hold a session's part.
+pub record Sound (Q : ℕ) (n : Lengths) (b : Stores) : Type 0 where
+  pub tabled : sized Q b ≡ true
+  pub ok : editorOk Q n b ≡ true
+
+abbrev pub stores : List ℕ → List ℕ → List ℕ → Stores
+stores text recall side = record { text = text; recall = recall; side = side }
+
+-- A function on the three stores does what the plain editor says of a text store of T bytes: its reply and all three stores are
+-- determined.
+abbrev pub Edits : EditorReply → Lengths → (ℕ → Plain → Outcome) → Stores → Stores → Type 0
+Edits r n outcome b then =
+    record { reply = r; stores = then } ≡ editedTo quarter n b (outcome (length (b .text)) (plainOf quarter n b))
+
+-- One that is lent text and side store alone does the same, whatever the recall store holds: that stays.
+abbrev pub EditsTexts : EditorReply → Lengths → (ℕ → Plain → Outcome) → (text side textThen sideThen : List ℕ) → Type 0
+EditsTexts r n outcome text side textThen sideThen =
+    (recall : List ℕ) → Sound quarter n (stores text recall side)
+    → Edits r n outcome (stores text recall side) (stores textThen recall sideThen)
+
+-- And one that is lent the side store alone.
+abbrev pub EditsQuotation : EditorReply → Lengths → (ℕ → Plain → Outcome) → (side sideThen : List ℕ) → Type 0
+EditsQuotation r n outcome side sideThen = (text : List ℕ) → EditsTexts r n outcome text side text sideThen
+
+-- Lengths and stores newly opened are those of the plain state that an opening gives.
+pub record Opens (m : Lengths) (n : ℕ) (b then : Stores) : Type 0 where
+  pub lengths : m ≡ lengthsOf (opening (take n (b .text)))
+  pub stores : then ≡ storesOf (length (b .text)) quarter (opening (take n (b .text)))
+
+-- ---- The record
+
+-- A side with nothing in it, and the lengths of a newly opened text of n bytes.
+abbrev pub noSizes : Sizes
+noSizes = record { l = 0; r = 0; rl = 0; rr = 0 }
+
+abbrev pub openingLengths : ℕ → Lengths
+openingLengths n =
+    record { main = record { l = 0; r = n; rl = 0; rr = 0 }; quoted = noSizes; xl = 0; xr = 0; pl = 0; mode = Main }
+
+-- The lengths without a quotation, in another mode; and once the quotation, if there is one, has become the pattern or the
+-- replacement.
+abbrev pub cleared : Mode → Lengths → Lengths
+cleared mode n = record { main = n .main; quoted = noSizes; xl = n .xl; xr = n .xr; pl = n .pl; mode = mode }
+
+abbrev pub patternTaken : Mode → Lengths → Lengths
+patternTaken Main n = n
+patternTaken Quoted n =
+    record { main = n .main; quoted = noSizes; xl = n .xl; xr = n .xr; pl = n .quoted .l + n .quoted .r; mode = Main }
+
+abbrev pub replacementTaken : Mode → Lengths → Lengths
+replacementTaken Main n = n
+replacementTaken Quoted n =
+    record { main = n .main; quoted = noSizes; xl = n .quoted .l; xr = n .quoted .r; pl = n .pl; mode = Main }
+
+-- What a key on a side makes of the lengths: refused as full, or its sizes put in.
+abbrev pub sizedIn : Mode → Sizes → Lengths → Lengths
+sizedIn Main m n = record { main = m; quoted = n .quoted; xl = n .xl; xr = n .xr; pl = n .pl; mode = n .mode }
+sizedIn Quoted m n = record { main = n .main; quoted = m; xl = n .xl; xr = n .xr; pl = n .pl; mode = n .mode }
+
+abbrev pub replyOf : Mode → Lengths → SideReply → EditorReply
+replyOf mode n t =
+    cond (t .full) (unedited FULL n) (record { code = 0; report = t .report; lengths = sizedIn mode (t .sizes) n })
+
+-- ---- Searches and quotations
+
+-- Text and side store as a search asks for them.
+pub record Searchable (n : Lengths) (text side : List ℕ) : Type 0 where
+  pub document : IsGap (n .main .l) (n .main .r) text
+  pub pattern : n .pl ≤ quarter
+  pub quotation : n .quoted .l + n .quoted .r ≤ quarter
+  pub quarters : length side ≡ 4 * quarter
+
+-- The side store once the quotation, if there is one, was given to the quarter at a place: its text stands there as a pair, and both of
+-- its own quarters are free.
+abbrev pub handed : ℕ → Mode → Sizes → ℕ → List ℕ → List ℕ
+handed Q Main n at side = side
+handed Q Quoted n at side =
+    patch 0 (zeros (2 * Q)) (patch at (paired Q (ungap (n .l) (n .r) (quarterOf Q 0 side))) side)
+
+-- What is known before a substitution: whether the pattern stands here, and that the finished text fits.
+pub record Substitutes (here : Bool) (T : ℕ) (p : Plain) : Type 0 where
+  pub known : here ≡ matches (p .pattern) (p .main .text)
+  pub room : fits T quarter (substituted p .state) ≡ true
+
+-- The distance over all of a text of n bytes.
+abbrev pub wholeOf : ℕ → Search
+wholeOf n = cond (leb 1 n) (Reached n) Nowhere

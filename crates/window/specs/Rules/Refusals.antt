@@ -1,0 +1,32 @@
+-- The checks of each call, in order: theorems say with them when each number is given. (01, refusals: order; 02, M-100: refusals.)
+use Rattle.gap.specs.Rules.Checks.{Check, check}
+use Rattle.window.specs.Words.{List, [], _∷_, ℕ, leb, length, take, Key, Session}
+use Rattle.gap.specs.Rules.Sequence.{every}
+use Rattle.gap.specs.Rules.Layout.{allowed, printable}
+use Rattle.editor.specs.Rules.Refusals.{SIZE, LONG, TEXT, SESSION, KEY, ROOM}
+use Rattle.editor.specs.Rules.Keys.{soundKey, pressed, finishedChecks}
+use Rattle.editor.specs.Rules.Bytes.{quarter}
+use Rattle.window.specs.Rules.Core.{Lent, T, tabled, isSession, held}
+use Rattle.window.specs.Rules.Sequences.{sentScreen}
+use Rattle.window.specs.Rules.Sending.{sendable}
+
+-- The checks of opening, in order.
+abbrev pub openingChecks : ℕ → ℕ → ℕ → Lent → List Check
+openingChecks n H W b =
+    check SIZE (tabled H W b) ∷ check LONG (leb n (T (b .stores))) ∷ check TEXT (every allowed (take n (b .stores .text))) ∷ []
+
+-- The checks of a key, in order; what comes behind KEY is about the finished texts.
+abbrev pub keyChecks : Session → Key → Lent → List Check
+keyChecks s k b =
+    check SIZE (tabled (s .frame .h) (s .frame .w) b)
+    ∷ check SESSION (isSession s (b .stores))
+    ∷ check KEY (soundKey k)
+    ∷ finishedChecks (T (b .stores)) quarter (pressed k (held s (b .stores)) .state)
+
+-- The checks of the routine for terminals, in order.
+abbrev pub sendChecks : ℕ → ℕ → ℕ → ℕ → ℕ → ℕ → List ℕ → List ℕ → List Check
+sendChecks H W first last row column screen buffer =
+    check SIZE (sendable H W first last row column screen)
+    ∷ check TEXT (every printable screen)
+    ∷ check ROOM (leb (length (sentScreen W first last row column screen)) (length buffer))
+    ∷ []

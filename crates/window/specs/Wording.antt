@@ -1,0 +1,5 @@
+-- How the contracts of this layer's functions speak. No rule stands here.
+pub mod Painter
+pub mod Calls
+pub mod Promise
+pub mod Writing

@@ -1,0 +1,45 @@
+-- What the two calls promise of their outcome: answer, record and the bytes of all four stores, for every input. And what the
+-- routine for terminals promises: answer and the bytes of the buffer.
+use mathlib.Core.Path.{_≡_}
+use Rattle.window.specs.Words.{List, [], _∷_, true, ℕ, Key, Session}
+use Rattle.editor.specs.Rules.Plain.{Plain}
+use Rattle.window.specs.Rules.Core.{Lent, Called, tabled, isSession, held, opened, keyed}
+use Rattle.window.specs.Rules.Terminal.{Bench, given}
+use Rattle.window.specs.Rules.Sending.{SendOutcome, sending}
+use Rattle.window.specs.Rules.Machine.{Line, received}
+
+abbrev pub OpenPromise : ℕ → ℕ → ℕ → Lent → Called → Type 0
+OpenPromise n H W b o = o ≡ opened n H W b
+
+abbrev pub KeyPromise : Session → Key → Lent → Called → Type 0
+KeyPromise s k b o = o ≡ keyed s k b
+
+abbrev pub SendPromise : ℕ → ℕ → ℕ → ℕ → ℕ → ℕ → List ℕ → List ℕ → SendOutcome → Type 0
+SendPromise H W first last row column screen buffer p = p ≡ sending H W first last row column screen buffer
+
+-- What it promises of the bytes for a call's answer.
+abbrev pub SendAfterPromise : Called → List ℕ → SendOutcome → Type 0
+SendAfterPromise o buffer p =
+    SendPromise (o .session .frame .h) (o .session .frame .w) (o .answer .first) (o .answer .last) (o .answer .row) (o .answer .column)
+    (o .lent .screen) buffer p
+
+-- ---- What the demands say of outcomes that meet these promises
+
+-- What a key on a session leads to: stores as tabled, a session again, holding the plain state p.
+pub record Follows (o : Called) (p : Plain) : Type 0 where
+  pub fit : tabled (o .session .frame .h) (o .session .frame .w) (o .lent) ≡ true
+  pub session : isSession (o .session) (o .lent .stores) ≡ true
+  pub holds : held (o .session) (o .lent .stores) ≡ p
+
+-- Demand 3: any run of calls, each handed what the one before gave back, with the terminal given the named rows.
+pub data BenchRun : List Key → Bench → Bench → Type 0 where
+  at-end : {at : Bench} → BenchRun [] at at
+  press : {k : Key} {ks : List Key} {at end : Bench} (o : Called) → KeyPromise (at .called .session) k (at .called .lent) o
+      → BenchRun ks (given o (at .terminal)) end → BenchRun (k ∷ ks) at end
+
+-- Demand 3 on a line: any run of calls, each handed what the one before gave back, with the routine after each and its bytes sent.
+pub data LineRun : List Key → Line → Line → Type 0 where
+  at-rest : {at : Line} → LineRun [] at at
+  strike : {k : Key} {ks : List Key} {at end : Line} (o : Called) (p : SendOutcome)
+      → KeyPromise (at .called .session) k (at .called .lent) o → SendAfterPromise o (at .buffer) p
+      → LineRun ks (received o p (at .terminal)) end → LineRun (k ∷ ks) at end
