@@ -44,10 +44,8 @@ put-two-requires-3 c κs = search needs
 
 put-rows-requires : tie.Need-put-rows-requires
 put-rows-requires c κs =
-    let after-bit-of : tie.After-bit-of = search in let after-put-entry : tie.After-put-entry = search in
-    let start : tie.Start = search in
-    let asked = start .pre in
-    let coded = after-put-entry .put-entry in
+    let asked = (let start : tie.Start = search in start .pre) in
+    let coded = (let after-put-entry : tie.After-put-entry = search in after-put-entry .put-entry) in
     (asked .0 .long, rows-room _ _ (asked .0) (omega (arith, coded .kept .1 .1 .0)))
 
 same-length : tie.Need-same-length
