@@ -114,9 +114,9 @@ struct chidukwore_painting {
     size_t count; /* how many bytes it wrote at the front of the buffer; those behind them are as they were. Refused: 0 */
 };
 
-/* Writes the bytes that bring a terminal up to date, in sequences of ECMA-48: for each row from first to last its place and its cells,
- * then the cursor's place. first, last, row and column are those of an answer: 0 and 0, or 1 <= first <= last <= rows; 1 <= row <= rows;
- * column <= columns. A buffer of rows * (columns + 7) + 9 bytes is always large enough. */
+/* Writes the bytes that bring a terminal up to date, in sequences of ECMA-48: for each row from first to last the spot of its first cell
+ * and its cells, then the cursor's spot. first, last, row and column are those of an answer: 0 and 0, or 1 <= first <= last <= rows;
+ * 1 <= row <= rows; column <= columns. A buffer of rows * (columns + 7) + 9 bytes is always large enough. */
 struct chidukwore_painting chidukwore_paint(size_t rows, size_t columns, size_t first, size_t last, size_t row, size_t column,
                                             const uint8_t *screen, size_t screen_length, uint8_t *buffer, size_t buffer_length);
 
