@@ -2,11 +2,13 @@
 -- editor's key.
 use mathlib.Core.Path.{_≡_, ap, ap₂, _∙_}
 use mathlib.Core.Bool.{true, _&&_}
-use mathlib.Core.List.{List}
-use Prim.Native.Nat.{ℕ, _*_, _≤_}
+use mathlib.Core.List.{List, []}
+use Prim.Native.Nat.{ℕ, _+_, _*_, _≤_}
+use native.Mathlib.Omega.{arith}
 use lib.Dec.{leb}
 use lib.ListN.{length}
-use borrow.Author.Tests.{leb-true, eqb-true, eq-eqb}
+use borrow.Author.Tests.{leb-true, le-leb, eqb-true, eq-eqb}
+use Rattle.gap.specs.Rules.Lines.{newlines, sinceAfter}
 use Rattle.gap.proofs.Laws.Tests.{and-left, and-right, and-both, cond-true}
 use Rattle.gap.proofs.Laws.Layout.{length-gapped}
 use Rattle.editor.specs.declared.Key.{Key}
