@@ -5,28 +5,10 @@ use borrow.Author.Needs.{needs}
 use Rattle.bench.proofs.run.press_key.Statement.{statement}
 use Rattle.bench.proofs.run.press_key.Tie as tie
 
-press-requires : tie.Need-press-requires
-press-requires c κs = search needs
-
 put-block-requires : tie.Need-put-block-requires
 put-block-requires c κs =
     let after-press : tie.After-press = search in let start : tie.Start = search in
     (keyed-printable _ _ _ _ (after-press .press .ensures) _ (after-press .press .kept .1 .1 .1 .1 .1 .0), start .pre)
-
-same-length : tie.Need-same-length
-same-length c = search needs
-
-same-length-2 : tie.Need-same-length-2
-same-length-2 c = search needs
-
-same-length-3 : tie.Need-same-length-3
-same-length-3 c = search needs
-
-same-length-4 : tie.Need-same-length-4
-same-length-4 c = search needs
-
-same-length-5 : tie.Need-same-length-5
-same-length-5 c = search needs
 
 returns : tie.Need-returns
 returns c =
@@ -34,14 +16,9 @@ returns c =
     press-does _ _ _ _ _ _ _ _ _ (after-press .press .ensures) (c .before .before .put-block .ensures)
 
 pub press-key-spec : {M : Type 1} → statement M
-press-key-spec =
-    tie.close
-    (tie.spec
-    press-requires
+press-key-spec = tie.close (tie.spec
+    (λ c κs. search needs)  -- press-requires
     put-block-requires
-    same-length
-    same-length-2
-    same-length-3
-    same-length-4
-    same-length-5
+    (λ c. search needs) (λ c. search needs) (λ c. search needs) (λ c. search needs)  -- same-length .. same-length-4
+    (λ c. search needs)  -- same-length-5
     returns)

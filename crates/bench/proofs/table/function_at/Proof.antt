@@ -4,16 +4,13 @@ use Rattle.bench.proofs.Laws.KeyTable.{key-made}
 use Rattle.bench.proofs.table.function_at.Statement.{statement}
 use Rattle.bench.proofs.table.function_at.Tie as tie
 
-row-requires : tie.Need-row-requires
-row-requires c κs = search needs
-
-function-key-requires : tie.Need-function-key-requires
-function-key-requires c κs = search needs
-
 returns : tie.Need-returns
 returns c =
     let start : tie.Start = search in let after-row : tie.After-row = search in
     key-made (start .args .i) (start .pre) (after-row .row .ensures) (c .function-key .ensures)
 
 pub function-at-spec : {M : Type 1} → statement M
-function-at-spec = tie.close (tie.spec row-requires function-key-requires returns)
+function-at-spec = tie.close (tie.spec
+    (λ c κs. search needs)  -- row-requires
+    (λ c κs. search needs)  -- function-key-requires
+    returns)
