@@ -6,12 +6,6 @@ use Rattle.editor.specs.Rules.Bytes.{quarter}
 use Rattle.bench.proofs.lend.Statement.{statement}
 use Rattle.bench.proofs.lend.Tie as tie
 
-slice-aggregate-play-2 : tie.Need-slice-aggregate-play-2
-slice-aggregate-play-2 c = sym (length-take-le _ _ (c .before .before .before .before .pre .1))
-
-slice-aggregate-play-4 : tie.Need-slice-aggregate-play-4
-slice-aggregate-play-4 c = sym (length-take-le _ _ (c .before .before .before .before .screen-size .ensures .1))
-
 play-requires : tie.Need-play-requires
 unfolding quarter
 play-requires c κs =
@@ -31,10 +25,10 @@ lend-spec = tie.close (tie.spec
     (λ c. search needs)  -- array-borrow-prefix-text
     (λ c. sym (length-take-le _ _ (c .before .before .before .pre .1)))  -- slice-aggregate-play
     (λ c. search needs)  -- array-borrow-prefix-recall
-    slice-aggregate-play-2
+    (λ c. sym (length-take-le _ _ (c .before .before .before .before .pre .1)))  -- slice-aggregate-play-2
     (λ c. search needs)  -- slice-aggregate-play-3
     (λ c. search needs)  -- array-borrow-prefix-screen
-    slice-aggregate-play-4
+    (λ c. sym (length-take-le _ _ (c .before .before .before .before .screen-size .ensures .1)))  -- slice-aggregate-play-4
     (λ c. search needs)  -- slice-aggregate-play-5
     play-requires
     (λ c. search needs))  -- returns

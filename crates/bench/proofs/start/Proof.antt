@@ -5,14 +5,11 @@ use borrow.Author.Needs.{needs}
 use Rattle.bench.proofs.start.Statement.{statement}
 use Rattle.bench.proofs.start.Tie as tie
 
-lend-requires : tie.Need-lend-requires
-lend-requires c κs = begun _ _ (sym (c .before .heading .given .1) ∙ c .before .before .before .begin .ensures)
-
 pub start-spec : {M : Type 1} → statement M
 start-spec = tie.close (tie.spec
     (λ c κs. search needs)  -- begin-requires
     (λ c. search needs)  -- enum-known-heading
-    lend-requires
+    (λ c κs. begun _ _ (sym (c .before .heading .given .1) ∙ c .before .before .before .begin .ensures))  -- lend-requires
     (λ c. search needs)  -- enum-known-heading-2
     (λ c κs. search needs)  -- give-up-requires
     (λ c. search needs) (λ c. search needs))  -- returns .. returns-2

@@ -12,25 +12,18 @@ Inv-loop h w screen out₀ at next₀ from₀ i₀ out next from i = Shown h w s
 abbrev μ-loop : tie.MeasureT-loop
 μ-loop h w screen out₀ at next₀ from₀ i₀ out next from i = h - i
 
-loop-holds : tie.Need-loop-holds Inv-loop μ-loop
-loop-holds c = shown-none _ _ _ _ _ (c .before .before .pre .0) (c .before .before .pre .1)
-
-add-to : tie.Need-add-to Inv-loop μ-loop
-add-to c = omega (arith, row-inside (c .before .loop .inv) (c .loop-test .taken))
-
-put-row-requires : tie.Need-put-row-requires Inv-loop μ-loop
-put-row-requires c κs = row-room (c .before .before .before .loop .inv) (c .before .before .loop-test .taken)
-
 loop-again : tie.Need-loop-again Inv-loop μ-loop
 loop-again c =
     let turn = c .before .before .before .before .before in shown-more (turn .before .loop .inv) (turn .loop-test .taken) (c .before .before .put-row .ensures)
 
 pub put-rows-spec : {M : Type 1} → statement M
-put-rows-spec = tie.close (tie.spec Inv-loop μ-loop loop-holds add-to
+put-rows-spec = tie.close (tie.spec Inv-loop μ-loop
+    (λ c. shown-none _ _ _ _ _ (c .before .before .pre .0) (c .before .before .pre .1))  -- loop-holds
+    (λ c. omega (arith, row-inside (c .before .loop .inv) (c .loop-test .taken)))  -- add-to
     (λ c. omega arith)  -- sub-put-row
     (λ c. omega arith)  -- part-put-row-start
     (λ c. row-inside (c .before .loop .inv) (c .loop-test .taken))  -- part-put-row-end
-    put-row-requires
+    (λ c κs. row-room (c .before .before .before .loop .inv) (c .before .before .loop-test .taken))  -- put-row-requires
     (λ c. omega arith)  -- add-i
     (λ c. omega arith)  -- loop-less
     loop-again

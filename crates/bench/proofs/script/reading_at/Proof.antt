@@ -5,9 +5,6 @@ use Rattle.bench.proofs.Laws.Scripts.{reading-finished, reading-unknown
 use Rattle.bench.proofs.script.reading_at.Statement.{statement}
 use Rattle.bench.proofs.script.reading_at.Tie as tie
 
-part-key-of-end : tie.Need-part-key-of-end
-part-key-of-end c = line-inside _ _ (c .end-at .ensures) (c .before .before .before .pre)
-
 returns-2 : tie.Need-returns-2
 returns-2 c =
     let named = c .before .before in
@@ -28,7 +25,7 @@ reading-at-spec = tie.close (tie.spec
     (λ c κs. search needs)  -- end-at-requires
     (λ c. line-starts _ _ (c .end-at .ensures))  -- sub-key-of
     (λ c. line-starts _ _ (c .end-at .ensures))  -- part-key-of-start
-    part-key-of-end
+    (λ c. line-inside _ _ (c .end-at .ensures) (c .before .before .before .pre))  -- part-key-of-end
     (λ c κs. search needs)  -- key-of-requires
     (λ c. search needs)  -- enum-known-k
     (λ c. search needs)  -- enum-told

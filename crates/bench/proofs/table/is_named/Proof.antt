@@ -8,9 +8,6 @@ use Rattle.bench.proofs.Laws.KeyTable.{name-fits, name-read}
 use Rattle.bench.proofs.table.is_named.Statement.{statement}
 use Rattle.bench.proofs.table.is_named.Tie as tie
 
-array-share-prefix-filled : tie.Need-array-share-prefix-filled
-array-share-prefix-filled c = let start : tie.Start = search in name-fits (combinationAt (start .args .i)) (c .before .row .ensures)
-
 slice-aggregate-same-bytes : tie.Need-slice-aggregate-same-bytes
 slice-aggregate-same-bytes c =
     let start : tie.Start = search in sym (length-take-le _ _ (name-fits (combinationAt (start .args .i)) (c .before .before .row .ensures)))
@@ -23,6 +20,7 @@ returns c =
 pub is-named-spec : {M : Type 1} → statement M
 is-named-spec = tie.close (tie.spec
     (λ c κs. search needs)  -- row-requires
-    array-share-prefix-filled slice-aggregate-same-bytes
+    (λ c. let start : tie.Start = search in name-fits (combinationAt (start .args .i)) (c .before .row .ensures))  -- array-share-prefix-filled
+    slice-aggregate-same-bytes
     (λ c κs. search needs)  -- same-bytes-requires
     returns)

@@ -8,12 +8,6 @@ use Rattle.bench.proofs.Laws.KeyNames.{five-words, named-as, named-inse
 use Rattle.bench.proofs.table.key_named.Statement.{statement}
 use Rattle.bench.proofs.table.key_named.Tie as tie
 
-sub-number-of : tie.Need-sub-number-of
-sub-number-of c = begins-fits _ _ (sym (c .before .begins-with .ensures) ∙ c .if1 .taken)
-
-part-number-of-start : tie.Need-part-number-of-start
-part-number-of-start c = begins-fits _ _ (sym (c .before .begins-with .ensures) ∙ c .if1 .taken)
-
 returns : tie.Need-returns
 unfolding bytes
 returns c =
@@ -58,7 +52,8 @@ pub key-named-spec : {M : Type 1} → statement M
 key-named-spec = tie.close (tie.spec
     (λ c. search needs)  -- slice-aggregate-begins-with
     (λ c κs. search needs)  -- begins-with-requires
-    sub-number-of part-number-of-start
+    (λ c. begins-fits _ _ (sym (c .before .begins-with .ensures) ∙ c .if1 .taken))  -- sub-number-of
+    (λ c. begins-fits _ _ (sym (c .before .begins-with .ensures) ∙ c .if1 .taken))  -- part-number-of-start
     (λ c. search needs)  -- part-number-of-end
     (λ c κs. search needs)  -- number-of-requires
     (λ c κs. search needs)  -- insert-numbered-requires
