@@ -178,7 +178,8 @@ pub fn next_turn(
 ) -> Turn
     requires { ⌜ t .at ≤ length (now input) ⌝ }
     requires { ⌜ 17408 ≤ length (now out) ⌝ }
-    ensures { λ u. ⌜ Does (nextTurn (now (input .entry)) (stateOf t (lent (now (text .entry)) (now (recall .entry)) (now (side .entry)) (now (screen .entry))))) u
+    ensures { λ u. ⌜ Does (nextTurn (now (input .entry))
+        (stateOf t (lent (now (text .entry)) (now (recall .entry)) (now (side .entry)) (now (screen .entry))))) u
         (lent (now (text .exit)) (now (recall .exit)) (now (side .exit)) (now (screen .exit))) (now (out .entry)) (now (out .exit)) ⌝ }
     ensures { λ u. ⌜ Onward t (length (now (input .entry))) u ⌝ }
 {

@@ -10,7 +10,8 @@ use Rattle.gap.proofs.Laws.Layout.{Encodes, length-gapped, length-paired, ungap
 use Rattle.gap.proofs.Laws.Layout.{gap-sound, pair-sound, sound-gap, sound-pair}
 use Rattle.editor.specs.Words.{Sizes, Lengths}
 use Rattle.editor.specs.Rules.Plain.{Side, Plain}
-use Rattle.editor.specs.Rules.Bytes.{Stores, sized, quarterOf, alone, sizesOf, plainOf, lengthsOf, storesOf, editorOk, oneHalf, unquoted, SoundPlain, Encoded}
+use Rattle.editor.specs.Rules.Bytes.{Stores, sized, quarterOf, alone, sizesOf, plainOf, lengthsOf, storesOf, editorOk, oneHalf}
+use Rattle.editor.specs.Rules.Bytes.{unquoted, SoundPlain, Encoded}
 use Rattle.editor.proofs.Laws.Quarters.{quartersOf, length-quarter, joined-quarters, length-side, encoded-quarter}
 use Rattle.editor.proofs.Laws.Session.{measured, measured-sized, passed, passed-ok}
 

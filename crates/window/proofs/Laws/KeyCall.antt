@@ -214,7 +214,8 @@ module _ (s : Session) (k : Key) (b : Lent) (fit : tabled (s .frame .h) (s .fram
   refused-so (done did) e positive = absurd (omega (arith, ap (λ q. q .reply .code) e))
 
   -- A refusal's number is above 0, so the code tells whether the key was refused.
-  pub press-refused : record { reply = r; stores = after } ≡ editedTo quarter (s .lengths) (b .stores) (key (T (b .stores)) quarter k (held s (b .stores))) → 0 < r .code
+  pub press-refused : record { reply = r; stores = after } ≡ editedTo quarter (s .lengths) (b .stores) (key (T (b .stores)) quarter k (held s (b .stores)))
+      → 0 < r .code
       → (q : Reply) → q ≡ turnedDownReply (r .code) s → called q (record { stores = after; screen = b .screen }) ≡ keyed s k b
   press-refused edits positive q same =
       ap (λ x. called x (record { stores = after; screen = b .screen })) same
@@ -245,6 +246,7 @@ module _ (s : Session) (k : Key) (b : Lent) (fit : tabled (s .frame .h) (s .fram
             ∙ (ap (finished s b) (sym outcome) ∙ sym (session-keyed s k b fit ok)));
       }
 
-  pub press-done : record { reply = r; stores = after } ≡ editedTo quarter (s .lengths) (b .stores) (key (T (b .stores)) quarter k (held s (b .stores))) → r .code ≤ 0
+  pub press-done : record { reply = r; stores = after } ≡ editedTo quarter (s .lengths) (b .stores) (key (T (b .stores)) quarter k (held s (b .stores)))
+      → r .code ≤ 0
       → Accepted s k b after r
   press-done edits zero-code = done-so (key (T (b .stores)) quarter k (held s (b .stores))) refl edits zero-code

@@ -10,7 +10,9 @@ returns : tie.Need-returns
 returns c = no-screen (c .before .before .args .h) (c .before .before .args .w) (c .before .rows-and-columns .ensures) (not-true _ (c .if1 .taken))
 
 mul-result : tie.Need-mul-result
-mul-result c = omega (arith, screen-fits (c .before .before .args .h) (c .before .before .args .w) (c .before .rows-and-columns .ensures) (not-false _ (c .if1 .left)))
+mul-result c =
+    omega
+    (arith, screen-fits (c .before .before .args .h) (c .before .before .args .w) (c .before .rows-and-columns .ensures) (not-false _ (c .if1 .left)))
 
 returns-2 : tie.Need-returns-2
 returns-2 c = some-screen (c .before .before .args .h) (c .before .before .args .w) (c .before .rows-and-columns .ensures) (not-false _ (c .if1 .left))

@@ -9,7 +9,8 @@ use Rattle.window.proofs.Laws.KeyCall.{not-tabled, tabled-so, product-s
 use Rattle.window.proofs.calls.tabled_stores.Statement.{statement}
 use Rattle.window.proofs.calls.tabled_stores.Tie as tie
 
-small : (c : tie.Else1) → rowsAndColumns (c .before .before .before .before .before .before .args .h) (c .before .before .before .before .before .before .args .w) ≡ true
+small : (c : tie.Else1)
+    → rowsAndColumns (c .before .before .before .before .before .before .args .h) (c .before .before .before .before .before .before .args .w) ≡ true
 small c = sym (c .before .rows-and-columns .ensures) ∙ not-false _ (c .if1 .left)
 
 mul-result : tie.Need-mul-result
