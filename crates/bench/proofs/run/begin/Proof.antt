@@ -7,10 +7,15 @@ use Rattle.bench.proofs.run.begin.Tie as tie
 
 returns-2 : tie.Need-returns-2
 returns-2 c =
-    input-read _ _ _ (c .before .before .before .before .before .if1 .left) (sym (c .before .before .heading .given .1) ∙ c .before .before .before .before .heading-of .ensures) (c .unless-large .ensures)
+    let told = c .before .before in
+    let read = told .before .before in
+    input-read _ _ _ (read .before .if1 .left) (sym (told .heading .given .1) ∙ read .heading-of .ensures) (c .unless-large .ensures)
 
 returns-3 : tie.Need-returns-3
-returns-3 c = input-read _ _ _ (c .before .before .before .before .if1 .left) (sym (c .before .heading2 .given .1) ∙ c .before .before .before .heading-of .ensures) refl
+returns-3 c =
+    let told = c .before in
+    let read = told .before .before in
+    input-read _ _ _ (read .before .if1 .left) (sym (told .heading2 .given .1) ∙ read .heading-of .ensures) refl
 
 pub begin-spec : {M : Type 1} → statement M
 begin-spec = tie.close (tie.spec
