@@ -1,5 +1,5 @@
 -- `put_decimal` writes the digits of n: one digit, or those of the tenth part and then the last. The measure is n.
-use Prim.Native.Nat.{ℕ}
+use Prim.Native.Nat.{ℕ, _<_}
 use native.Mathlib.Omega.{arith}
 use borrow.Author.Needs.{needs}
 use borrow.Fn.Kinds.{In}
