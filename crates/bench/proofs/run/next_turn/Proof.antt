@@ -1,6 +1,7 @@
 -- `next_turn` does what the line at hand says.
 use mathlib.Core.Path.{sym, _∙_}
-use Rattle.bench.proofs.Laws.Turning.{next-pressed, next-finished, next-unknown, onward-pressed, onward-last}
+use Rattle.bench.proofs.Laws.Blocks.{keyed-printable}
+use Rattle.bench.proofs.Laws.Turning.{press-does, next-pressed, next-finished, next-unknown, onward-pressed, onward-last}
 use borrow.Author.Needs.{needs}
 use Rattle.bench.proofs.run.next_turn.Statement.{statement}
 use Rattle.bench.proofs.run.next_turn.Tie as tie
@@ -11,8 +12,14 @@ reading-at-requires c κs = search needs
 enum-known-reading : tie.Need-enum-known-reading
 enum-known-reading c = search needs
 
-press-key-requires : tie.Need-press-key-requires
-press-key-requires c κs = search needs
+press-requires : tie.Need-press-requires
+press-requires c κs = search needs
+
+answered-requires : tie.Need-answered-requires
+answered-requires c κs =
+    let after-press : tie.After-press = search in let after-reading : tie.After-reading = search in
+    let start : tie.Start = search in
+    (keyed-printable _ _ _ _ (after-press .press .ensures) _ (after-press .press .kept .1 .1 .1 .1 .1 .0), start .pre .1)
 
 enum-told : tie.Need-enum-told
 enum-told c = search needs
@@ -49,13 +56,11 @@ same-length-5 c = search needs
 
 returns : tie.Need-returns
 returns c =
-    let after-press-key : tie.After-press-key = search in let after-reading : tie.After-reading = search in
-    let after-reading-at : tie.After-reading-at = search in let start : tie.Start = search in (
-      next-pressed _ (start .args .t) _ _ _ (sym (after-reading .reading .given .1) ∙ after-reading-at .reading-at .ensures) _ _ _ _
-          (after-press-key .press-key .ensures),
-      onward-pressed _ (start .args .t) _ _ _ (sym (after-reading .reading .given .1) ∙ after-reading-at .reading-at .ensures) _ _ _ _
-          (after-press-key .press-key .ensures),
-    )
+    let after-press : tie.After-press = search in let after-reading : tie.After-reading = search in
+    let after-reading-at : tie.After-reading-at = search in let start : tie.Start = search in
+    let line = sym (after-reading .reading .given .1) ∙ after-reading-at .reading-at .ensures in
+    let does = press-does _ _ _ _ (after-press .press .ensures) (c .before .before .answered .ensures) in
+    (next-pressed _ (start .args .t) _ _ _ line _ _ _ _ does, onward-pressed _ (start .args .t) _ _ _ line _ _ _ _ does)
 
 returns-2 : tie.Need-returns-2
 returns-2 c =
@@ -84,7 +89,8 @@ next-turn-spec =
     (tie.spec
     reading-at-requires
     enum-known-reading
-    press-key-requires
+    press-requires
+    answered-requires
     enum-told
     stop-requires
     enum-told-2

@@ -17,14 +17,15 @@ lay-out-requires c κs = search needs
 open-requires : tie.Need-open-requires
 open-requires c κs = search needs
 
-put-block-requires : tie.Need-put-block-requires
-put-block-requires c κs =
+answered-requires : tie.Need-answered-requires
+answered-requires c κs =
     let after-open : tie.After-open = search in let after-lay-out : tie.After-lay-out = search in
     let start : tie.Start = search in
     (opened-printable _ _ _ _ _ (after-open .«open» .ensures) _ (after-open .«open» .kept .1 .1 .1 .1 .1 .1 .0), start .pre .1)
 
 same-length : tie.Need-same-length
-same-length c = search needs
+same-length c =
+    let after-open : tie.After-open = search in let after-lay-out : tie.After-lay-out = search in search needs
 
 same-length-2 : tie.Need-same-length-2
 same-length-2 c = search needs
@@ -41,8 +42,8 @@ same-length-5 c = search needs
 returns : tie.Need-returns
 returns c =
     let after-open : tie.After-open = search in let after-lay-out : tie.After-lay-out = search in
-    opening-does _ _ _ _ _ _ _ _ _ (after-lay-out .lay-out .ensures) (after-open .«open» .ensures)
-    (c .before .before .before .put-block .ensures)
+    let start : tie.Start = search in
+    opening-does (start .args .h) _ _ (after-lay-out .lay-out .ensures) (after-open .«open» .ensures) (c .before .before .answered .ensures)
 
 pub opening-spec : {M : Type 1} → statement M
 opening-spec =
@@ -52,7 +53,7 @@ opening-spec =
     add-next-2
     lay-out-requires
     open-requires
-    put-block-requires
+    answered-requires
     same-length
     same-length-2
     same-length-3
