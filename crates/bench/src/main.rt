@@ -9,11 +9,8 @@ use crate::run::begin;
 use crate::run::next_turn;
 use crate::run::opening;
 use crate::run::screen_size;
-use editor::Action;
 use editor::Key;
-use editor::Place;
 use editor::QUARTER;
-use gap::Direction;
 use window::Session;
 ghost use Prim.Native.Nat.{_+_, _≤_, _<_};
 ghost use lib.ListN.{length};
@@ -48,11 +45,11 @@ pub enum Reading {
     Unknown,
 }
 
-// A row of the key table: a function key, the length of its name, and its name filled up with zeros.
+// A row of the key table: a function key in numbers, the length of its name, and its name filled up with zeros.
 pub struct Entry {
-    pub action: Action,
-    pub direction: Direction,
-    pub place: Place,
+    pub action: usize,
+    pub direction: usize,
+    pub place: usize,
     pub length: usize,
     pub name: [u8; 24],
 }

@@ -8,12 +8,11 @@ use crate::print::put_refused;
 use crate::print::put_script;
 use crate::script::heading_of;
 use crate::script::reading_at;
-use editor::Key;
 use gap::fields::line_number;
 use gap::numbers::smaller;
 use gap::runs::copy_at;
 use window::Answer;
-use window::Session;
+use window::Reply;
 use window::calls::open;
 use window::calls::press;
 use window::calls::rows_and_columns;
@@ -26,8 +25,8 @@ ghost use Rattle.gap.specs.Wording.Written.{Wrote};
 ghost use Rattle.window.specs.Wording.Calls.{lent};
 ghost use Rattle.bench.specs.declared.Heading.the-variants.{Headed};
 ghost use Rattle.bench.specs.Rules.Print.{block, Printable};
-ghost use Rattle.bench.specs.Rules.Run.{unlessLarge, beginning, screenSize, openingTurn, pressedTurn, nextTurn};
-ghost use Rattle.bench.specs.Wording.Turns.{stateOf, Does, Onward};
+ghost use Rattle.bench.specs.Rules.Run.{unlessLarge, beginning, screenSize, openingTurn, nextTurn};
+ghost use Rattle.bench.specs.Wording.Turns.{stateOf, Answered, Does, Onward};
 
 // The most bytes that a script may have, and the largest store that it may ask for.
 const LONGEST_INPUT: usize = 8192;
@@ -92,6 +91,31 @@ fn put_block(a: Answer, h: usize, w: usize, screen: &[u8], out: &mut [u8]) -> us
     put_accepted(a, h, w, screen, out)
 }
 
+// The block of a call is printed, and its record handed on.
+fn answered(
+    reply: Reply,
+    going: bool,
+    at: usize,
+    h: usize,
+    w: usize,
+    screen: &[u8],
+    out: &mut [u8],
+) -> Turn
+    requires { ⌜ (reply .answer .code ≡ 0 → Printable h w (now screen)) ⌝ }
+    requires { ⌜ 17408 ≤ length (now out) ⌝ }
+    ensures { λ t. ⌜ Answered going at h w reply (now (screen .entry)) (now (out .entry)) t (now (out .exit)) ⌝ }
+{
+    let answer = reply.answer;
+    let session = reply.session;
+    let printed = put_block(answer, h, w, screen, out);
+    Turn {
+        going: going,
+        at: at,
+        session: session,
+        printed: printed,
+    }
+}
+
 // The text is laid out and opened. A refused opening is the last turn.
 pub fn opening(
     h: Header,
@@ -107,50 +131,18 @@ pub fn opening(
     ensures { λ t. ⌜ Does (openingTurn h (now (input .entry)) (lent (now (text .entry)) (now (recall .entry)) (now (side .entry)) (now (screen .entry)))) t
         (lent (now (text .exit)) (now (recall .exit)) (now (side .exit)) (now (screen .exit))) (now (out .entry)) (now (out .exit)) ⌝ }
 {
-    let at = h.at;
-    let n = h.length;
-    let rows = h.rows;
-    let columns = h.columns;
-    let next = at + n + 1;
-    lay_out(input, at, n, text);
-    let reply = open(n, rows, columns, text, recall, side, screen);
-    let answer = reply.answer;
-    let session = reply.session;
-    let printed = put_block(answer, rows, columns, screen, out);
-    Turn {
-        going: answer.code == 0,
-        at: next,
-        session: session,
-        printed: printed,
-    }
-}
-
-// A key is pressed, and its block printed.
-fn press_key(
-    session: Session,
-    k: Key,
-    next: usize,
-    text: &mut [u8],
-    recall: &mut [u8],
-    side: &mut [u8],
-    screen: &mut [u8],
-    out: &mut [u8],
-) -> Turn
-    requires { ⌜ 17408 ≤ length (now out) ⌝ }
-    ensures { λ t. ⌜ Does (pressedTurn session k next (lent (now (text .entry)) (now (recall .entry)) (now (side .entry)) (now (screen .entry)))) t
-        (lent (now (text .exit)) (now (recall .exit)) (now (side .exit)) (now (screen .exit))) (now (out .entry)) (now (out .exit)) ⌝ }
-{
-    let frame = session.frame;
-    let reply = press(session, k, text, recall, side, screen);
-    let answer = reply.answer;
-    let session = reply.session;
-    let printed = put_block(answer, frame.h, frame.w, screen, out);
-    Turn {
-        going: true,
-        at: next,
-        session: session,
-        printed: printed,
-    }
+    let next = h.at + h.length + 1;
+    lay_out(input, h.at, h.length, text);
+    let reply = open(h.length, h.rows, h.columns, text, recall, side, screen);
+    answered(
+        reply,
+        reply.answer.code == 0,
+        next,
+        h.rows,
+        h.columns,
+        screen,
+        out,
+    )
 }
 
 // Nothing more is done. So many bytes are to be printed.
@@ -178,7 +170,8 @@ pub fn next_turn(
 ) -> Turn
     requires { ⌜ t .at ≤ length (now input) ⌝ }
     requires { ⌜ 17408 ≤ length (now out) ⌝ }
-    ensures { λ u. ⌜ Does (nextTurn (now (input .entry)) (stateOf t (lent (now (text .entry)) (now (recall .entry)) (now (side .entry)) (now (screen .entry))))) u
+    ensures { λ u. ⌜ Does (nextTurn (now (input .entry))
+        (stateOf t (lent (now (text .entry)) (now (recall .entry)) (now (side .entry)) (now (screen .entry))))) u
         (lent (now (text .exit)) (now (recall .exit)) (now (side .exit)) (now (screen .exit))) (now (out .entry)) (now (out .exit)) ⌝ }
     ensures { λ u. ⌜ Onward t (length (now (input .entry))) u ⌝ }
 {
@@ -186,7 +179,18 @@ pub fn next_turn(
     let session = t.session;
     let reading = reading_at(input, at);
     match reading {
-        Reading::Pressed(k, next) => press_key(session, k, next, text, recall, side, screen, out),
+        Reading::Pressed(k, next) => {
+            let reply = press(session, k, text, recall, side, screen);
+            answered(
+                reply,
+                true,
+                next,
+                session.frame.h,
+                session.frame.w,
+                screen,
+                out,
+            )
+        }
         Reading::Finished => stop(t, 0),
         Reading::Unknown => {
             let printed = put_script(line_number(input, at), out);

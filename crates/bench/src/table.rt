@@ -2,158 +2,177 @@
 use crate::Entry;
 use crate::Naming;
 use crate::script::DIGITS;
-use editor::Action;
 use editor::Key;
-use editor::Place;
 use gap::Direction;
 use gap::Number;
 use gap::compare::begins_with;
 use gap::compare::same_bytes;
 use gap::decimals::number_of;
+use window::host_keys::function_key;
 ghost use mathlib.Core.Path.{_≡_};
 ghost use Prim.Native.Nat.{_<_};
 ghost use Rattle.gap.specs.Rules.Sequence.{sameBytes};
 ghost use Rattle.bench.specs.Rules.Names.{nameOf, combinationAt, functionOf, entryOf, functionNamed, insertNumbered, keyNamed};
 
+// Actions, directions and places by the numbers that the host's boundary gives them: a table of enum values would take the checker
+// five times as long.
+const MOVE: usize = 0;
+
+const DELETE: usize = 1;
+
+const LEFT: usize = 0;
+
+const RIGHT: usize = 1;
+
+const CHARACTER: usize = 0;
+
+const WORD: usize = 1;
+
+const LINE_BEGINNING: usize = 2;
+
+const LINE_ENDING: usize = 3;
+
+const DOCUMENT: usize = 4;
+
 // All 20 function keys, by action, direction and place; the two that get KEY are among them.
 const TABLE: [Entry; 20] = [
     Entry {
-        action: Action::Move,
-        direction: Direction::Left,
-        place: Place::Character,
+        action: MOVE,
+        direction: LEFT,
+        place: CHARACTER,
         length: 19,
         name: *b"move-left-character\0\0\0\0\0",
     },
     Entry {
-        action: Action::Move,
-        direction: Direction::Left,
-        place: Place::Word,
+        action: MOVE,
+        direction: LEFT,
+        place: WORD,
         length: 14,
         name: *b"move-left-word\0\0\0\0\0\0\0\0\0\0",
     },
     Entry {
-        action: Action::Move,
-        direction: Direction::Left,
-        place: Place::LineBeginning,
+        action: MOVE,
+        direction: LEFT,
+        place: LINE_BEGINNING,
         length: 20,
         name: *b"move-left-line-begin\0\0\0\0",
     },
     Entry {
-        action: Action::Move,
-        direction: Direction::Left,
-        place: Place::LineEnding,
+        action: MOVE,
+        direction: LEFT,
+        place: LINE_ENDING,
         length: 18,
         name: *b"move-left-line-end\0\0\0\0\0\0",
     },
     Entry {
-        action: Action::Move,
-        direction: Direction::Left,
-        place: Place::Document,
+        action: MOVE,
+        direction: LEFT,
+        place: DOCUMENT,
         length: 18,
         name: *b"move-left-document\0\0\0\0\0\0",
     },
     Entry {
-        action: Action::Move,
-        direction: Direction::Right,
-        place: Place::Character,
+        action: MOVE,
+        direction: RIGHT,
+        place: CHARACTER,
         length: 20,
         name: *b"move-right-character\0\0\0\0",
     },
     Entry {
-        action: Action::Move,
-        direction: Direction::Right,
-        place: Place::Word,
+        action: MOVE,
+        direction: RIGHT,
+        place: WORD,
         length: 15,
         name: *b"move-right-word\0\0\0\0\0\0\0\0\0",
     },
     Entry {
-        action: Action::Move,
-        direction: Direction::Right,
-        place: Place::LineBeginning,
+        action: MOVE,
+        direction: RIGHT,
+        place: LINE_BEGINNING,
         length: 21,
         name: *b"move-right-line-begin\0\0\0",
     },
     Entry {
-        action: Action::Move,
-        direction: Direction::Right,
-        place: Place::LineEnding,
+        action: MOVE,
+        direction: RIGHT,
+        place: LINE_ENDING,
         length: 19,
         name: *b"move-right-line-end\0\0\0\0\0",
     },
     Entry {
-        action: Action::Move,
-        direction: Direction::Right,
-        place: Place::Document,
+        action: MOVE,
+        direction: RIGHT,
+        place: DOCUMENT,
         length: 19,
         name: *b"move-right-document\0\0\0\0\0",
     },
     Entry {
-        action: Action::Delete,
-        direction: Direction::Left,
-        place: Place::Character,
+        action: DELETE,
+        direction: LEFT,
+        place: CHARACTER,
         length: 21,
         name: *b"delete-left-character\0\0\0",
     },
     Entry {
-        action: Action::Delete,
-        direction: Direction::Left,
-        place: Place::Word,
+        action: DELETE,
+        direction: LEFT,
+        place: WORD,
         length: 16,
         name: *b"delete-left-word\0\0\0\0\0\0\0\0",
     },
     Entry {
-        action: Action::Delete,
-        direction: Direction::Left,
-        place: Place::LineBeginning,
+        action: DELETE,
+        direction: LEFT,
+        place: LINE_BEGINNING,
         length: 22,
         name: *b"delete-left-line-begin\0\0",
     },
     Entry {
-        action: Action::Delete,
-        direction: Direction::Left,
-        place: Place::LineEnding,
+        action: DELETE,
+        direction: LEFT,
+        place: LINE_ENDING,
         length: 20,
         name: *b"delete-left-line-end\0\0\0\0",
     },
     Entry {
-        action: Action::Delete,
-        direction: Direction::Left,
-        place: Place::Document,
+        action: DELETE,
+        direction: LEFT,
+        place: DOCUMENT,
         length: 20,
         name: *b"delete-left-document\0\0\0\0",
     },
     Entry {
-        action: Action::Delete,
-        direction: Direction::Right,
-        place: Place::Character,
+        action: DELETE,
+        direction: RIGHT,
+        place: CHARACTER,
         length: 22,
         name: *b"delete-right-character\0\0",
     },
     Entry {
-        action: Action::Delete,
-        direction: Direction::Right,
-        place: Place::Word,
+        action: DELETE,
+        direction: RIGHT,
+        place: WORD,
         length: 17,
         name: *b"delete-right-word\0\0\0\0\0\0\0",
     },
     Entry {
-        action: Action::Delete,
-        direction: Direction::Right,
-        place: Place::LineBeginning,
+        action: DELETE,
+        direction: RIGHT,
+        place: LINE_BEGINNING,
         length: 23,
         name: *b"delete-right-line-begin\0",
     },
     Entry {
-        action: Action::Delete,
-        direction: Direction::Right,
-        place: Place::LineEnding,
+        action: DELETE,
+        direction: RIGHT,
+        place: LINE_ENDING,
         length: 21,
         name: *b"delete-right-line-end\0\0\0",
     },
     Entry {
-        action: Action::Delete,
-        direction: Direction::Right,
-        place: Place::Document,
+        action: DELETE,
+        direction: RIGHT,
+        place: DOCUMENT,
         length: 21,
         name: *b"delete-right-document\0\0\0",
     },
@@ -173,10 +192,7 @@ fn function_at(i: usize) -> Key
     ensures { λ k. ⌜ k ≡ functionOf (combinationAt i) ⌝ }
 {
     let entry = row(i);
-    let action = entry.action;
-    let direction = entry.direction;
-    let place = entry.place;
-    Key::Function(action, direction, place)
+    function_key(entry.action, entry.direction, entry.place)
 }
 
 // Row i has this name.

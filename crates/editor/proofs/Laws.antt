@@ -1,4 +1,6 @@
-pub mod Sound
+pub mod Encoding
+pub mod Room
+pub mod Keeps
 pub mod Quarters
 pub mod Session
 pub mod Outcomes

@@ -16,7 +16,7 @@ use crate::searches::replace_key;
 use crate::sides::on_side;
 use gap::Direction;
 ghost use mathlib.Core.Path.{_≡_};
-ghost use Rattle.editor.specs.Rules.Keys.{soundFunction, soundKey, onSide, pressed, bounded, key, quoted};
+ghost use Rattle.editor.specs.Rules.Keys.{soundFunction, soundKey, onSide, pressed, bounded, key};
 ghost use Rattle.editor.specs.Rules.Bytes.{quarter};
 ghost use Rattle.editor.specs.Wording.Promise.{editing, Sound, stores, Edits};
 ghost use mathlib.Core.Bool.{false};

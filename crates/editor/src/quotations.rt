@@ -63,7 +63,8 @@ pub fn quote_key(n: Lengths, side: &mut [u8]) -> EditorReply
 fn give_quotation(l: usize, r: usize, at: usize, side: &mut [u8])
     requires { ⌜ (length (now side) ≡ 4 * quarter) × (l + r ≤ quarter) ⌝ }
     requires { ⌜ (2 * quarter ≤ at) × (at + quarter ≤ 4 * quarter) ⌝ }
-    ensures { λ _. ⌜ now (side .exit) ≡ patch 0 (zeros (2 * quarter)) (patch at (paired quarter (ungap l r (quarterOf quarter 0 (now (side .entry))))) (now (side .entry))) ⌝ }
+    ensures { λ _. ⌜ now (side .exit) ≡ patch 0 (zeros (2 * quarter))
+        (patch at (paired quarter (ungap l r (quarterOf quarter 0 (now (side .entry))))) (now (side .entry))) ⌝ }
 {
     let mut own = [0u8; QUARTER];
     let end = at + QUARTER;

@@ -10,8 +10,8 @@ use gap::Direction;
 ghost use mathlib.Core.Path.{_≡_};
 ghost use Prim.Native.Nat.{_+_, _^_, _≤_, _<_};
 ghost use Rattle.editor.specs.Rules.Plain.{went};
-ghost use Rattle.editor.specs.Rules.Bytes.{unedited};
-ghost use Rattle.editor.specs.Wording.Promise.{roomOf, movedBy, fullReply, doneReply, replyOf, sizedIn, openingLengths, cleared};
+ghost use Rattle.editor.specs.Rules.Bytes.{unedited, openingLengths};
+ghost use Rattle.editor.specs.Wording.Promise.{roomOf, movedBy, fullReply, doneReply, replyOf, sizedIn, cleared};
 ghost use Rattle.editor.specs.Wording.Promise.{patternTaken, replacementTaken};
 
 // ---- Reports

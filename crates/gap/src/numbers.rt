@@ -1,6 +1,6 @@
 // Small reckonings with numbers.
 ghost use mathlib.Core.Path.{_≡_};
-ghost use Prim.Native.Nat.{_-_, min, max};
+ghost use Prim.Native.Nat.{min, max};
 ghost use Rattle.gap.specs.Rules.Numbers.{bit};
 
 // The smaller of two numbers.
@@ -21,16 +21,6 @@ pub fn larger(a: usize, b: usize) -> usize
         return b;
     }
     a
-}
-
-// What a is above b, or 0.
-pub fn excess(a: usize, b: usize) -> usize
-    ensures { λ m. ⌜ m ≡ a - b ⌝ }
-{
-    if a < b {
-        return 0;
-    }
-    a - b
 }
 
 // A test as a number.

@@ -1,5 +1,5 @@
 // The host's boundary: the calls for programs in C or Rust, with record, key and answer as numbers. Nothing is asked beforehand; what is
-// trusted is that each pointer is that of as many bytes as its length says, and that no two overlap.
+// trusted is that each pointer is that of as many bytes as its length says, that no two overlap, and that none is null.
 use crate::Frame;
 use crate::Reply;
 use crate::Sending;

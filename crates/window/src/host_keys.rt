@@ -51,7 +51,7 @@ fn place_of(p: usize) -> Place
     Place::Character
 }
 
-fn function_key(a: usize, d: usize, p: usize) -> Key
+pub fn function_key(a: usize, d: usize, p: usize) -> Key
     ensures { λ k. ⌜ k ≡ functionFrom a d p ⌝ }
 {
     if 1 < a {

@@ -13,42 +13,44 @@ use Rattle.gap.proofs.Laws.Writers.{wrote-none, wrote-length}
 use Rattle.editor.specs.declared.Key.{Key}
 use Rattle.window.specs.declared.Session.{Session}
 use Rattle.window.specs.declared.Reply.{Reply}
-use Rattle.window.specs.Rules.Core.{Lent, opened, keyed}
+use Rattle.window.specs.Rules.Core.{Lent, Called, opened, keyed}
 use Rattle.window.specs.Wording.Calls.{lent, called}
 use Rattle.bench.specs.Words.{Header, Pressed, Finished, Unknown}
 use Rattle.bench.specs.declared.Turn.{Turn}
 use Rattle.bench.specs.Rules.Script.{readingAt}
 use Rattle.bench.specs.Rules.Print.{block, scriptLine}
-use Rattle.bench.specs.Rules.Run.{laidOut, Turned, openingTurn, pressedTurn, read, nextTurn}
+use Rattle.bench.specs.Rules.Run.{answered, laidOut, Turned, openingTurn, pressedTurn, read, nextTurn}
 use Rattle.bench.proofs.Laws.Scripts.{pressed-goes-on}
-use Rattle.bench.specs.Wording.Turns.{stateOf, Does, Onward}
+use Rattle.bench.specs.Wording.Turns.{stateOf, Answered, Does, Onward}
 
 -- ---- Turns
 
 -- A call's block is printed, and its record and stores are handed on.
-module _ (r : Reply) (after : Lent) (n : ℕ) (old new : List ℕ) where
-  pub opening-does : (h : Header) (input : List ℕ) (b : Lent) (text : List ℕ) → text ≡ laidOut h input b .stores .text
-      → called r after ≡ opened (h .length) (h .rows) (h .columns) (lent text (b .stores .recall) (b .stores .side) (b .screen))
-      → Wrote 0 (block (h .rows) (h .columns) (r .answer) (after .screen)) old n new
-      → Does (openingTurn h input b) (record { going = eqb (r .answer .code) 0; at = h .at + h .length + 1; session = r .session; printed = n }) after old new
-  unfolding openingTurn
-  opening-does h input b text laid e w =
-      let o = e ∙ ap (λ t. opened (h .length) (h .rows) (h .columns) (lent t (b .stores .recall) (b .stores .side) (b .screen))) laid in
+module _ {r : Reply} {after : Lent} {t : Turn} {old new : List ℕ} where
+  leaves : (goes : Called → Bool) {next at H W : ℕ} {o : Called} → next ≡ at → called r after ≡ o
+      → Answered (goes (called r after)) next H W r (after .screen) old t new → Does (answered (goes o) at o H W) t after old new
+  leaves goes {next} {at} {H} {W} {o} place e said =
       record {
-        state = ap (λ at. record { going = eqb (r .answer .code) 0; at = at; session = r .session; lent = after }) (add-one (h .at + h .length))
-            ∙ ap (λ x. record { going = eqb (x .answer .code) 0; at = suc (h .at + h .length); session = x .session; lent = x .lent }) o;
-        prints = subst (λ x. Wrote 0 (block (h .rows) (h .columns) (x .answer) (x .lent .screen)) old n new) o w;
+        state =
+            ap (λ u. stateOf u after) (said .turn)
+            ∙ ap (λ n. record { going = goes (called r after); at = n; session = r .session; lent = after }) place
+            ∙ ap (λ x. record { going = goes x; at = at; session = x .session; lent = x .lent }) e;
+        prints = subst (λ x. Wrote 0 (block H W (x .answer) (x .lent .screen)) old (t .printed) new) e (said .prints);
       }
 
+  pub opening-does : (h : Header) (input : List ℕ) (b : Lent) {text : List ℕ} → text ≡ laidOut h input b .stores .text
+      → called r after ≡ opened (h .length) (h .rows) (h .columns) (lent text (b .stores .recall) (b .stores .side) (b .screen))
+      → Answered (eqb (r .answer .code) 0) (h .at + h .length + 1) (h .rows) (h .columns) r (after .screen) old t new
+      → Does (openingTurn h input b) t after old new
+  unfolding openingTurn
+  opening-does h input b laid e said =
+      let o = e ∙ ap (λ t. opened (h .length) (h .rows) (h .columns) (lent t (b .stores .recall) (b .stores .side) (b .screen))) laid in
+      leaves (λ x. eqb (x .answer .code) 0) (add-one (h .at + h .length)) o said
+
   pub press-does : (s : Session) (k : Key) (next : ℕ) (b : Lent) → called r after ≡ keyed s k b
-      → Wrote 0 (block (s .frame .h) (s .frame .w) (r .answer) (after .screen)) old n new
-      → Does (pressedTurn s k next b) (record { going = true; at = next; session = r .session; printed = n }) after old new
+      → Answered true next (s .frame .h) (s .frame .w) r (after .screen) old t new → Does (pressedTurn s k next b) t after old new
   unfolding pressedTurn
-  press-does s k next b e w =
-      record {
-        state = ap (λ x. record { going = true; at = next; session = x .session; lent = x .lent }) e;
-        prints = subst (λ x. Wrote 0 (block (s .frame .h) (s .frame .w) (x .answer) (x .lent .screen)) old n new) e w;
-      }
+  press-does s k next b e said = leaves (λ x. true) refl e said
 
 -- The turn that ends the program.
 abbrev pub last : Turn → ℕ → Turn

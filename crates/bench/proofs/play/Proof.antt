@@ -23,9 +23,6 @@ abbrev μ-loop : tie.MeasureT-loop
 μ-loop input text₀ recall₀ side₀ screen₀ out₀ turn₀ going₀ text recall side screen out turn going =
     turnsLeft going turn (length input)
 
-opening-requires : tie.Need-opening-requires Inv-loop μ-loop
-opening-requires c κs = search needs
-
 write-front-requires : tie.Need-write-front-requires Inv-loop μ-loop
 write-front-requires c κs =
     let after-opening : tie.After-opening Inv-loop μ-loop = search in
@@ -97,25 +94,9 @@ same-length-5 c =
     let after-opening : tie.After-opening Inv-loop μ-loop = search in
     c .before .loop .inv .6 ∙ after-opening .opening .kept .1 .1 .1 .1 .1 .1 .0
 
-returns : tie.Need-returns Inv-loop μ-loop
-returns c = search needs
-
 pub play-spec : {M : Type 1} → statement M
-play-spec =
-    tie.close
-    (tie.spec
-    Inv-loop
-    μ-loop
-    opening-requires
-    write-front-requires
-    loop-holds
-    next-turn-requires
-    write-front-requires-2
-    loop-less
-    loop-again
-    same-length
-    same-length-2
-    same-length-3
-    same-length-4
-    same-length-5
-    returns)
+play-spec = tie.close (tie.spec Inv-loop μ-loop
+    (λ c κs. search needs)  -- opening-requires
+    write-front-requires loop-holds next-turn-requires write-front-requires-2 loop-less loop-again same-length
+    same-length-2 same-length-3 same-length-4 same-length-5
+    (λ c. search needs))  -- returns

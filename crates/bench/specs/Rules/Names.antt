@@ -51,16 +51,32 @@ combinationAt i = getD combinations i (record { action = Move; direction = Left;
 abbrev pub functionOf : Combination → Key
 functionOf c = Function (c .action) (c .direction) (c .place)
 
--- A row of the constant table: the combination, the length of its name, and its name filled up with zeros.
+-- A row of the constant table: the combination in the numbers of the host's boundary, the length of its name, and its name filled up
+-- with zeros.
+abbrev pub actionNumber : Action → ℕ
+actionNumber Move = 0
+actionNumber Delete = 1
+
+abbrev pub directionNumber : Direction → ℕ
+directionNumber Left = 0
+directionNumber Right = 1
+
+abbrev pub placeNumber : Place → ℕ
+placeNumber Character = 0
+placeNumber Word = 1
+placeNumber LineBeginning = 2
+placeNumber LineEnding = 3
+placeNumber Document = 4
+
 abbrev pub widthOfNames : ℕ
 widthOfNames = 24
 
 abbrev pub entryOf : Combination → Entry
 entryOf c =
     record {
-      action = c .action;
-      direction = c .direction;
-      place = c .place;
+      action = actionNumber (c .action);
+      direction = directionNumber (c .direction);
+      place = placeNumber (c .place);
       length = length (nameOf c);
       name = nameOf c ++ zeros (widthOfNames - length (nameOf c));
     }

@@ -22,14 +22,13 @@ use Rattle.editor.specs.declared.SideReply.{SideReply}
 use Rattle.editor.specs.declared.EditorReply.{EditorReply}
 use Rattle.editor.specs.Rules.Plain.{Side, Plain, quiet, rang, Did, reporting, within, done}
 use Rattle.editor.specs.Rules.Keys.{carried, withSide, matches, searched, exchanged, substituted, fits, bounded}
-use Rattle.editor.specs.Rules.Bytes.{Stores, sizesOf, plainOf, editedTo}
+use Rattle.editor.specs.Rules.Bytes.{Stores, sizesOf, plainOf, editedTo, SoundPlain}
 use Rattle.editor.specs.Wording.Promise.{Sound, stores, doneReply, written, EditsSide, replyOf}
-use Rattle.editor.proofs.Laws.Sound.{SoundPlain}
 use Rattle.editor.proofs.Laws.States.{sound-fits, searched-sound}
 use Rattle.editor.proofs.Laws.SideEdits.{landed, not-moved}
 use Rattle.editor.proofs.Laws.Replies.{on-side, landed as all-landed}
+use Rattle.editor.proofs.Laws.Encoding.{session-encoded}
 use Rattle.editor.proofs.Laws.Fitting.{Sized, sizes, fitting}
-use Rattle.editor.proofs.Theorems.Layouts.{session-encoded}
 
 -- A store in which the first k bytes right of the cursor were dropped.
 module _ (T k l r : ℕ) (d : Doc) (left : length (d .l) ≡ l) (right : length (d .r) ≡ r) (fits : l + r ≤ T)

@@ -11,8 +11,8 @@ use Rattle.editor.specs.Rules.Bytes.{Stores, quarter, quarterOf, lengths
 use Rattle.editor.specs.Wording.Promise.{Sound, patternTaken, Searchable}
 use Rattle.editor.proofs.Laws.Quarters.{length-quarter}
 use Rattle.editor.proofs.Laws.Session.{measured, passed}
+use Rattle.editor.proofs.Laws.Encoding.{session-encoded}
 use Rattle.editor.proofs.Laws.Replies.{on-side}
-use Rattle.editor.proofs.Theorems.Layouts.{session-encoded}
 
 -- The texts of a plain state have a record's lengths.
 pub record Sized (n : Lengths) (p : Plain) : Type 0 where

@@ -19,13 +19,12 @@ use Rattle.gap.proofs.Laws.Layout.{length-gapped, length-paired}
 use Rattle.editor.specs.Words.{Direction, Mode, Main, Quoted, Lengths}
 use Rattle.editor.specs.Rules.Plain.{Plain, Did, done}
 use Rattle.editor.specs.Rules.Keys.{withPattern, searched, found, withReplacement, substituted, replaced, fits, bounded}
-use Rattle.editor.specs.Rules.Bytes.{Stores, Edited, quarterOf, alone, lengthsOf, storesOf, plainOf, editedTo}
-use Rattle.editor.specs.Wording.Promise.{Sound, stores, noSizes, patternTaken, replacementTaken, handed}
+use Rattle.editor.specs.Rules.Bytes.{Stores, Edited, quarterOf, alone, lengthsOf, storesOf, plainOf, editedTo, SoundPlain, Encoded, noSizes}
+use Rattle.editor.specs.Wording.Promise.{Sound, stores, patternTaken, replacementTaken, handed}
 use Rattle.editor.proofs.Laws.Quotation.{no-quotation, copied-whole}
 use Rattle.editor.proofs.Laws.Session.{measured}
-use Rattle.editor.proofs.Laws.Sound.{SoundPlain}
+use Rattle.editor.proofs.Laws.Encoding.{plain-of-encoded, encoded-ok, encoded-sized, session-encoded}
 use Rattle.editor.proofs.Laws.States.{sound-fits, with-pattern-sound, found-sound, with-replacement-sound}
-use Rattle.editor.proofs.Theorems.Layouts.{Encoded, plain-of-encoded, encoded-ok, encoded-sized, session-encoded}
 
 -- What `give_quotation` does, call by call: the quotation is copied out, given as a pair, and its two quarters are cleared.
 pub quotation-given : (Q l r at : ℕ) (side own rest given then : List ℕ) → length side ≡ 4 * Q → at + Q ≤ 4 * Q

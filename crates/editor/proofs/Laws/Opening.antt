@@ -12,8 +12,8 @@ use Rattle.gap.specs.Rules.Doc.{empty}
 use Rattle.gap.specs.Rules.Layout.{gapped, paired}
 use Rattle.gap.proofs.Laws.Runs.{zeros-both}
 use Rattle.editor.specs.Words.{Lengths}
-use Rattle.editor.specs.Rules.Bytes.{Stores, quarter, sized, lengthsOf, storesOf}
-use Rattle.editor.specs.Wording.Promise.{stores, Opens, openingLengths}
+use Rattle.editor.specs.Rules.Bytes.{Stores, quarter, sized, lengthsOf, storesOf, openingLengths}
+use Rattle.editor.specs.Wording.Promise.{stores, Opens}
 use Rattle.editor.proofs.Laws.Quotation.{no-quotation}
 use Rattle.editor.proofs.Laws.Session.{measured}
 

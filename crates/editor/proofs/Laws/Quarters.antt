@@ -12,8 +12,7 @@ use Rattle.gap.specs.Rules.Layout.{gapped, paired}
 use Rattle.gap.proofs.Laws.Sequence.{length-part}
 use Rattle.gap.proofs.Laws.Layout.{length-gapped, length-paired}
 use Rattle.editor.specs.Rules.Plain.{Plain}
-use Rattle.editor.specs.Rules.Bytes.{quarterOf, alone, storesOf}
-use Rattle.editor.proofs.Laws.Sound.{SoundPlain}
+use Rattle.editor.specs.Rules.Bytes.{quarterOf, alone, storesOf, SoundPlain}
 
 -- Quarters 0 to n, joined.
 abbrev pub joined : (ℕ → List ℕ) → ℕ → List ℕ

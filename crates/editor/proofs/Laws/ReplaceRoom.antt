@@ -11,20 +11,20 @@ use lib.Seq.{drop-at}
 use Rattle.gap.specs.Rules.Sequence.{begins}
 use Rattle.gap.specs.Rules.Doc.{content}
 use Rattle.gap.specs.Rules.Layout.{ungap}
-use Rattle.gap.proofs.Laws.Tests.{decided}
-use Rattle.editor.specs.Words.{Mode, Main, Quoted, Lengths, Replace}
+use Rattle.gap.proofs.Laws.Tests.{decided, cond-false}
+use Rattle.editor.specs.Words.{Mode, Main, Quoted, Lengths}
 use Rattle.editor.specs.Rules.Refusals.{FULL}
-use Rattle.editor.specs.Rules.Plain.{Plain, refused}
-use Rattle.editor.specs.Rules.Keys.{matches, withReplacement, substituted, replaced, soundKey, pressed, key, fits, bounded}
-use Rattle.editor.specs.Rules.Bytes.{Stores, plainOf, unedited, editedTo}
+use Rattle.editor.specs.Rules.Plain.{Plain, Did}
+use Rattle.editor.specs.Rules.Keys.{matches, withReplacement, substituted, replaced, fits, bounded}
+use Rattle.editor.specs.Rules.Bytes.{Stores, plainOf, unedited, editedTo, SoundPlain, Encoded}
 use Rattle.editor.specs.declared.EditorReply.{EditorReply}
 use Rattle.editor.specs.Wording.Promise.{Sound, replacementTaken}
-use Rattle.editor.proofs.Laws.Outcomes.{full-refused}
 use Rattle.editor.proofs.Laws.HandedOver.{Holds}
 use Rattle.editor.proofs.Laws.Fitting.{Sized, sizes, Fitting}
 use Rattle.editor.proofs.Laws.FindReplace.{pattern-lent}
-use Rattle.editor.proofs.Theorems.Layouts.{Encoded, session-encoded}
-use Rattle.editor.proofs.Theorems.Refusals.{replace-full, replace-unmatched}
+use Rattle.editor.proofs.Laws.Encoding.{session-encoded}
+use Rattle.editor.proofs.Laws.Room.{fits-not, fits-within, substituted-exceeds}
+use Rattle.editor.proofs.Laws.States.{sound-fits, with-replacement-sound}
 
 -- How many bytes REPLACE puts in: the replacement, which in QUOTED is the quotation.
 abbrev placedSize : Mode → Lengths → ℕ
@@ -117,28 +117,31 @@ module _ (Q : ℕ) (n : Lengths) (b : Stores) (sound : Sound Q n b) where
     as-known : matches (withReplacement (p .mode) p .pattern) (withReplacement (p .mode) p .main .text) ≡ here
     as-known = same-match (p .mode) p ∙ sym known
 
+    abbrev next : Plain
+    next = withReplacement (p .mode) p
+
+    next-sound : SoundPlain T Q next
+    next-sound = with-replacement-sound T Q (p .mode) p (encoded .sound)
+
     -- It fails exactly where FULL is due.
     pub replace-refused : ok ≡ false → {reply : EditorReply} → reply ≡ unedited FULL n
         → record { reply = reply; stores = b } ≡ editedTo Q n b (bounded T Q (replaced p))
-    unfolding key soundKey pressed
+    unfolding bounded replaced
     replace-refused failed e =
         let (match, over) = no-room here _ _ (sym tested ∙ failed) in
-        let full = replace-full T Q p (encoded .sound) (as-known ∙ match) .1 (rw finished-as over) in
-        (λ i. record { reply = e i; stores = b }) ∙ ap (editedTo Q n b) (sym full)
-
-    never-full : ok ≡ true → ¬ (key T Q Replace p ≡ refused FULL)
-    never-full passed full =
-        ⊎-elim
-        (λ e. let over = replace-full T Q p (encoded .sound) (as-known ∙ e) .0 full in
-        let fit : m .main .l + m .main .r - m .pl + (m .xl + m .xr) ≤ T = room here _ _ (sym tested ∙ passed) e in
-        omega (arith, over, finished-as, fit))
-        (λ e. replace-unmatched T Q p (encoded .sound) (as-known ∙ e) full)
-        (decided here)
+        let exceeds = substituted-exceeds T Q next next-sound (as-known ∙ match) .1 (rw finished-as over) in
+        (λ i. record { reply = e i; stores = b }) ∙ ap (editedTo Q n b) (sym (cond-false _ _ (fits-not T Q (substituted next .state) .1 exceeds)))
 
     pub replace-fits : ok ≡ true → fits T Q (replaced p .state) ≡ true
-    unfolding soundKey pressed
+    unfolding replaced substituted
     replace-fits passed =
-        ⊎-elim (λ e. e) (λ e. absurd (never-full passed (full-refused T Q Replace p .1 (refl, e)))) (decided (fits T Q (replaced p .state)))
+        ⊎-elim
+        (λ e. fits-within T Q (substituted next .state) .1 (λ exceeds.
+        let over = substituted-exceeds T Q next next-sound (as-known ∙ e) .0 exceeds in
+        let fit : m .main .l + m .main .r - m .pl + (m .xl + m .xr) ≤ T = room here _ _ (sym tested ∙ passed) e in
+        omega (arith, over, finished-as, fit)))
+        (λ e. ap (λ (did : Did Plain). fits T Q (did .state)) (cond-false _ _ (as-known ∙ e)) ∙ sound-fits T Q next next-sound)
+        (decided here)
 
     -- What a substitution asks of the plain state handed over.
     pub replace-substitutes : ok ≡ true → {m : Lengths} {c : Stores} → Holds Q (withReplacement (p .mode) p) m c

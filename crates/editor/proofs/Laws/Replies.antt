@@ -19,15 +19,14 @@ use Rattle.editor.specs.declared.EditorReply.{EditorReply}
 use Rattle.editor.specs.Rules.Refusals.{FULL}
 use Rattle.editor.specs.Rules.Plain.{Side, emptySide, Plain, quiet, Did, within, refused, done}
 use Rattle.editor.specs.Rules.Keys.{sideOf, withSide, onSide, otherMode, quoted, fits, bounded}
-use Rattle.editor.specs.Rules.Bytes.{Stores, Edited, quarterOf, alone, sizesOf, plainOf, lengthsOf, storesOf, unedited, editedTo}
+use Rattle.editor.specs.Rules.Bytes.{Stores, Edited, quarterOf, alone, sizesOf, plainOf, lengthsOf, storesOf, unedited, editedTo, SoundPlain, Encoded}
 use Rattle.editor.specs.Wording.Promise.{OnSide, sideHeld, SideEdited, written, EditsSide, Sound, stores, cleared, sizedIn, replyOf}
 use Rattle.gap.proofs.Laws.Holdable.{content-fits}
-use Rattle.editor.proofs.Laws.Sound.{SoundPlain}
 use Rattle.editor.proofs.Laws.Quarters.{length-quarter}
 use Rattle.editor.proofs.Laws.Quotation.{two-quarters, quotation-cleared}
 use Rattle.editor.proofs.Laws.Session.{measured, passed}
+use Rattle.editor.proofs.Laws.Encoding.{session-encoded}
 use Rattle.editor.proofs.Laws.States.{limit, sound-fits, quoted-sound}
-use Rattle.editor.proofs.Theorems.Layouts.{Encoded, session-encoded}
 
 -- The lengths and the two stores of the side that a mode names.
 abbrev pub sizesAt : Mode → Lengths → Sizes

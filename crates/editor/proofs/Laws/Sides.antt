@@ -7,9 +7,8 @@ use lib.Dec.{eqb}
 use lib.ListN.{length}
 use Rattle.gap.specs.Rules.Sequence.{every}
 use Rattle.gap.specs.Rules.Doc.{Doc, content, delete, times, passed, removed}
-use Rattle.gap.specs.Rules.Layout.{allowed}
+use Rattle.gap.specs.Rules.Layout.{allowed, Holdable}
 use Rattle.gap.proofs.Laws.Tests.{and-both, or-right}
-use Rattle.gap.proofs.Laws.Layout.{Holdable}
 use Rattle.gap.proofs.Laws.Holdable.{empty-holdable, splice-holdable, deletions-holdable, moves-holdable, removed-holdable}
 use Rattle.editor.specs.Words.{Direction, Left, Right, Search, Reached, Nowhere, Action, Move, Delete}
 use Rattle.editor.specs.Rules.Plain.{Side}

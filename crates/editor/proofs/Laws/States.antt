@@ -9,19 +9,17 @@ use lib.Dec.{leb}
 use lib.ListN.{length}
 use Rattle.gap.specs.Rules.Doc.{Doc, content}
 use Rattle.gap.specs.Rules.Nearest.{distance}
-use Rattle.gap.specs.Rules.Layout.{allowed}
+use Rattle.gap.specs.Rules.Layout.{allowed, Holdable}
 use Rattle.gap.proofs.Laws.Tests.{and-left, and-right, and-both}
 use Rattle.gap.proofs.Laws.Sequence.{every-left}
-use Rattle.gap.proofs.Laws.Layout.{Holdable}
 use Rattle.gap.proofs.Laws.Compared.{begins-fits}
 use Rattle.gap.proofs.Laws.Holdable.{empty-holdable, content-fits, splice-holdable, left-holdable, right-holdable}
 use Rattle.editor.specs.Words.{Direction, Action, Move, Place, Mode, Main, Quoted}
 use Rattle.editor.specs.Rules.Places.{isAt}
 use Rattle.editor.specs.Rules.Plain.{Side, emptySide, Plain, quiet, rang, Did, reporting}
-use Rattle.editor.specs.Rules.Bytes.{alone, sizesOf, unquoted}
+use Rattle.editor.specs.Rules.Bytes.{alone, sizesOf, unquoted, SoundPlain}
 use Rattle.editor.specs.Rules.Keys.{function, sideOf, withSide, onSide, otherMode, quoted, withPattern, matches, searched, found}
 use Rattle.editor.specs.Rules.Keys.{withReplacement, exchanged, substituted, fits}
-use Rattle.editor.proofs.Laws.Sound.{SoundPlain}
 use Rattle.editor.proofs.Laws.Sides.{SoundSide, carried-sound}
 
 -- How long the text of the mode's side may be.

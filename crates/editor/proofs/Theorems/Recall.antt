@@ -14,8 +14,8 @@ use Rattle.editor.specs.Rules.Places.{isAt}
 use Rattle.editor.specs.Rules.Plain.{Side, Plain, quiet, Did, reporting, within, done}
 use Rattle.editor.specs.Rules.Keys.{soundKey, carried, function, recalled, sideOf, withSide, onSide}
 use Rattle.editor.specs.Rules.Keys.{withPattern, matches, searched, found, pressed, fits, key}
-use Rattle.editor.proofs.Laws.Sound.{SoundPlain}
 use Rattle.editor.proofs.Laws.Outcomes.{accepted}
+use Rattle.editor.specs.Rules.Bytes.{SoundPlain}
 use Rattle.editor.proofs.Laws.States.{side-with, on-side-twice, sound-fits}
 
 put-nothing : (d : Doc) → splice 0 0 empty d ≡ d

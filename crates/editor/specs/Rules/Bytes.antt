@@ -1,9 +1,10 @@
 -- The plain state as record and stores: writing it down, reading it back, and the session test without the window's part.
 -- T is the length of the text store, Q that of a quarter of the side store.
 use Rattle.editor.specs.Words.{List, [], _++_, Bool, true, _&&_, _||_, ℕ, _*_, eqb, leb, length, Mode, Main, Quoted, Sizes, Lengths}
+use mathlib.Core.Path.{_≡_}
 use Rattle.gap.specs.Rules.Sequence.{part}
 use Rattle.gap.specs.Rules.Doc.{Doc}
-use Rattle.gap.specs.Rules.Layout.{gapped, paired, ungap, unpair, soundGap, soundPair}
+use Rattle.gap.specs.Rules.Layout.{gapped, paired, ungap, unpair, soundGap, soundPair, Holdable}
 use Rattle.editor.specs.declared.EditorReply.{EditorReply}
 use Rattle.editor.specs.Rules.Plain.{Side, Plain, quiet, Outcome, refused, done}
 
@@ -62,6 +63,14 @@ lengthsOf p =
       mode = p .mode;
     }
 
+-- A side with nothing in it, and the lengths of a newly opened text of n bytes.
+abbrev pub noSizes : Sizes
+noSizes = record { l = 0; r = 0; rl = 0; rr = 0 }
+
+abbrev pub openingLengths : ℕ → Lengths
+openingLengths n =
+    record { main = record { l = 0; r = n; rl = 0; rr = 0 }; quoted = noSizes; xl = 0; xr = 0; pl = 0; mode = Main }
+
 unfoldable pub storesOf : ℕ → ℕ → Plain → Stores
 storesOf T Q p =
     record {
@@ -105,3 +114,22 @@ editedTo Q n b (done did) =
       reply = record { code = 0; report = did .report; lengths = lengthsOf (did .state) };
       stores = storesOf (length (b .text)) Q (did .state);
     }
+
+-- What makes a plain state a session's: every text fits its store with allowed bytes, of each recall pair one half is empty, and in
+-- MAIN there is no quotation. (01, session.)
+pub record SoundPlain (T Q : ℕ) (p : Plain) : Type 0 where
+  pub text : Holdable T (p .main .text)
+  pub recall : Holdable T (p .main .recall)
+  pub quotation : Holdable Q (p .quoted .text)
+  pub itsRecall : Holdable Q (p .quoted .recall)
+  pub pattern : Holdable Q (alone (p .pattern))
+  pub replacement : Holdable Q (p .replacement)
+  pub half : oneHalf (sizesOf (p .main)) ≡ true
+  pub itsHalf : oneHalf (sizesOf (p .quoted)) ≡ true
+  pub mode : unquoted (p .mode) (sizesOf (p .quoted)) ≡ true
+
+-- Record and stores that pass the session test hold a sound plain state, and are its encoding.
+pub record Encoded (Q : ℕ) (n : Lengths) (b : Stores) : Type 0 where
+  pub sound : SoundPlain (length (b .text)) Q (plainOf Q n b)
+  pub lengths : lengthsOf (plainOf Q n b) ≡ n
+  pub stores : storesOf (length (b .text)) Q (plainOf Q n b) ≡ b

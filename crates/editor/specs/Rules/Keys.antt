@@ -4,6 +4,9 @@ use Rattle.editor.specs.Words.{List, [], _∷_, Bool, true, false, _&&_,
 use Rattle.editor.specs.Words.{Direction, Left, Right, Search, Reached, Nowhere, Action, Move, Delete, Mode, Main, Quoted}
 use Rattle.editor.specs.Words.{Place, Character, Word, LineBeginning, LineEnding, Document}
 use Rattle.editor.specs.Words.{Key, Insert, Function, Recall, Quote, Find, Replace}
+use mathlib.Core.Path.{_≡_}
+use mathlib.Core.Logic.{_⊎_}
+use Prim.Native.Nat.{_<_}
 use Rattle.gap.specs.Rules.Sequence.{begins}
 use Rattle.gap.specs.Rules.Doc.{Doc, empty, content, move, delete, times, removed, splice}
 use Rattle.gap.specs.Rules.Nearest.{distance}
@@ -174,3 +177,15 @@ after p (done did) = did .state
 unfoldable pub keys : ℕ → ℕ → List Key → Plain → Plain
 keys T Q [] p = p
 keys T Q (k ∷ ks) p = keys T Q ks (after p (key T Q k p))
+
+-- ---- The two refusals in words
+
+-- 01, KEY: an insert of a byte that is not allowed, a deletion left to a line ending, a deletion right to a line beginning.
+pub data Unsound : Key → Type 0 where
+  notAllowed : {b : ℕ} → allowed b ≡ false → Unsound (Insert b)
+  leftToEnding : Unsound (Function Delete Left LineEnding)
+  rightToBeginning : Unsound (Function Delete Right LineBeginning)
+
+-- 01, FULL: the finished document would exceed T, or the finished quotation Q.
+abbrev pub Exceeds : ℕ → ℕ → Plain → Type 0
+Exceeds T Q p = (T < length (content (p .main .text))) ⊎ (Q < length (content (p .quoted .text)))

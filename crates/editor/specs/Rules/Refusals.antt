@@ -1,4 +1,4 @@
--- The refusals by number and name. In which order a call gives them is a list of checks (gap/specs/Checks). (01, refusal numbers.)
+-- The refusals by number and name. In which order a call gives them is a list of checks (gap/specs/Rules/Checks). (01, refusal numbers.)
 use Rattle.editor.specs.Words.{ℕ}
 
 -- 01, the table of refusals; 7 is M-100's.

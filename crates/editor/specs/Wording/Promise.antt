@@ -13,7 +13,7 @@ use Rattle.editor.specs.declared.EditorReply.{EditorReply}
 use Rattle.editor.specs.Rules.Refusals.{FULL}
 use Rattle.editor.specs.Rules.Plain.{Side, Plain, opening, quiet, Did, Outcome}
 use Rattle.editor.specs.Rules.Keys.{inserted, function, recalled, matches, substituted, fits}
-use Rattle.editor.specs.Rules.Bytes.{Stores, Edited, quarter, quarterOf, sized, sizesOf, plainOf, lengthsOf, storesOf, editorOk, unedited, editedTo}
+use Rattle.editor.specs.Rules.Bytes.{Stores, quarter, quarterOf, sized, sizesOf, plainOf, lengthsOf, storesOf, editorOk, unedited, editedTo, noSizes}
 
 -- ---- One side
 
@@ -106,14 +106,6 @@ pub record Opens (m : Lengths) (n : ℕ) (b then : Stores) : Type 0 where
   pub stores : then ≡ storesOf (length (b .text)) quarter (opening (take n (b .text)))
 
 -- ---- The record
-
--- A side with nothing in it, and the lengths of a newly opened text of n bytes.
-abbrev pub noSizes : Sizes
-noSizes = record { l = 0; r = 0; rl = 0; rr = 0 }
-
-abbrev pub openingLengths : ℕ → Lengths
-openingLengths n =
-    record { main = record { l = 0; r = n; rl = 0; rr = 0 }; quoted = noSizes; xl = 0; xr = 0; pl = 0; mode = Main }
 
 -- The lengths without a quotation, in another mode; and once the quotation, if there is one, has become the pattern or the
 -- replacement.

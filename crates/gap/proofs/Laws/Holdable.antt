@@ -8,10 +8,9 @@ use lib.ListN.{length, take, drop, length-append, length-take, length-drop}
 use Rattle.gap.specs.Words.{Direction, Left, Right}
 use Rattle.gap.specs.Rules.Sequence.{every}
 use Rattle.gap.specs.Rules.Doc.{Doc, empty, content, move, delete, times, passed, splice, removed}
-use Rattle.gap.specs.Rules.Layout.{allowed}
+use Rattle.gap.specs.Rules.Layout.{allowed, Holdable}
 use Rattle.gap.proofs.Laws.Sequence.{every-both, every-left, every-right, every-take, every-drop}
 use Rattle.gap.proofs.Laws.Doc.{deletions-left, deletions-right, content-moves}
-use Rattle.gap.proofs.Laws.Layout.{Holdable}
 
 pub empty-holdable : (size : ℕ) → Holdable size empty
 unfolding every

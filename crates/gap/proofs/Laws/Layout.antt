@@ -10,15 +10,10 @@ use lib.Seq.{length-take-le, take-add, take-append-seam, take-at, drop-at, drop-
 use borrow.Author.Tests.{leb-true, le-leb}
 use Rattle.gap.specs.Rules.Sequence.{every, part, zeros}
 use Rattle.gap.specs.Rules.Doc.{Doc, content}
-use Rattle.gap.specs.Rules.Layout.{allowed, free, spare, gapped, paired, ungap, unpair, soundGap, soundPair, IsGap, IsPair}
+use Rattle.gap.specs.Rules.Layout.{allowed, free, spare, gapped, paired, ungap, unpair, soundGap, soundPair, IsGap, IsPair, Holdable}
 use Rattle.gap.proofs.Laws.Tests.{and-left, and-right, and-both}
 use Rattle.gap.proofs.Laws.Sequence.{length-part, length-zeros, zeros-free, free-zeros}
 use Rattle.gap.proofs.Laws.Runs.{tailOf, tail-lent}
-
--- A store of this size can hold the two texts, and their bytes are allowed.
-pub record Holdable (size : ℕ) (d : Doc) : Type 0 where
-  pub fits : length (d .l) + length (d .r) ≤ size
-  pub bytes : every allowed (content d) ≡ true
 
 -- Both stores are three pieces joined. In a gap store the middle one is free, in a pair store the last one.
 module _ (x y z : List ℕ) (n : ℕ) where

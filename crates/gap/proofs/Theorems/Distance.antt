@@ -2,20 +2,14 @@
 -- exactly when no number of moves does.
 use mathlib.Core.Path.{_≡_}
 use mathlib.Core.Logic.{_↔_}
-use mathlib.Core.Bool.{Bool, true, false}
+use mathlib.Core.Bool.{Bool, false}
 use Prim.Native.Nat.{ℕ, _≤_, _<_}
 use native.Mathlib.Omega.{arith}
 use Rattle.gap.specs.declared.Direction.{Direction}
 use Rattle.gap.specs.declared.Search.the-variants.{Reached, Nowhere}
 use Rattle.gap.specs.Rules.Doc.{Doc, move, times, room}
-use Rattle.gap.specs.Rules.Nearest.{distance}
+use Rattle.gap.specs.Rules.Nearest.{distance, LeastMoves}
 use Rattle.gap.proofs.Laws.Nearest.{Least, reached-least, least-reached, nowhere-none, none-nowhere}
-
-pub record LeastMoves (way : Direction) (place : Doc → Bool) (d : Doc) (n : ℕ) : Type 0 where
-  pub above : 0 < n
-  pub within : n ≤ room way d
-  pub reaches : place (times (move way) n d) ≡ true
-  pub smaller : (m : ℕ) → 0 < m → m < n → place (times (move way) m d) ≡ false
 
 pub distance-least : (way : Direction) (place : Doc → Bool) (d : Doc) (n : ℕ)
     → (distance way place d ≡ Reached n) ↔ LeastMoves way place d n

@@ -1,7 +1,7 @@
 -- How bytes hold texts: gap stores and pair stores. (01, what the core holds: below the table of stores.)
 use mathlib.Core.Path.{_≡_}
 use Prim.Native.Nat.{_≤_}
-use Rattle.gap.specs.Words.{List, _++_, Bool, _&&_, _||_, ℕ, _+_, _-_, eqb, leb, length, take, drop}
+use Rattle.gap.specs.Words.{List, _++_, Bool, true, _&&_, _||_, ℕ, _+_, _-_, eqb, leb, length, take, drop}
 use Rattle.gap.specs.Rules.Sequence.{every, part, zeros}
 use Rattle.gap.specs.Rules.Doc.{Doc, content}
 use Rattle.gap.specs.Rules.Lines.{newline}
@@ -56,3 +56,8 @@ pub record IsGap (l r : ℕ) (s : List ℕ) : Type 0 where
 pub record IsPair (l r : ℕ) (s : List ℕ) : Type 0 where
   pub fits : l + r ≤ length s
   pub holds : paired (length s) (unpair l r s) ≡ s
+
+-- A store of this size can hold the two texts, and their bytes are allowed.
+pub record Holdable (size : ℕ) (d : Doc) : Type 0 where
+  pub fits : length (d .l) + length (d .r) ≤ size
+  pub bytes : every allowed (content d) ≡ true

@@ -21,9 +21,6 @@ use Rattle.editor.specs.Rules.Keys.{key}
 use Rattle.editor.specs.Rules.Bytes.{Stores, quarter, quarterOf, sized, plainOf, lengthsOf, storesOf, editorOk, editedTo}
 use Rattle.editor.specs.Wording.Promise.{Sound, stores}
 use Rattle.editor.proofs.Laws.Fitting.{fitting}
-use Rattle.editor.proofs.Theorems.Layouts.{plain-of-encoded, session-encoded, encoded-sized, encoded-ok}
-use Rattle.editor.proofs.Theorems.Sessions.{key-keeps}
-use Rattle.editor.proofs.Theorems.Refusals.{refused-number}
 use Rattle.window.specs.Words.{Lengths, Frame, Session, Key, Mode, Main, Quoted, Report}
 use Rattle.window.specs.declared.Spot.{Spot}
 use Rattle.window.specs.declared.Rows.{Rows}
@@ -34,8 +31,10 @@ use Rattle.window.specs.Rules.Rows.{firstRow, lastRow}
 use Rattle.window.specs.Wording.Painter.{Canvas}
 use Rattle.window.specs.Wording.Calls.{spotIn, visibleAt, policyAt, Texts, virtualHeld, Refreshed, lent, called, turnedDownReply, reported}
 use Rattle.window.proofs.Laws.Window.{policy-visible, Visible, visible-says}
-use Rattle.window.proofs.Laws.Views.{tabled-facts, session-view}
-use Rattle.window.proofs.Theorems.Sessions.{session-keyed}
+use Rattle.window.proofs.Laws.Views.{tabled-facts, session-view, session-keyed}
+use Rattle.editor.proofs.Laws.Encoding.{plain-of-encoded, session-encoded, encoded-sized, encoded-ok}
+use Rattle.editor.proofs.Laws.Keeps.{key-keeps}
+use Rattle.editor.proofs.Laws.Outcomes.{refusal-number}
 
 -- ---- Tests
 
@@ -215,7 +214,8 @@ module _ (s : Session) (k : Key) (b : Lent) (fit : tabled (s .frame .h) (s .fram
   refused-so (done did) e positive = absurd (omega (arith, ap (λ q. q .reply .code) e))
 
   -- A refusal's number is above 0, so the code tells whether the key was refused.
-  pub press-refused : record { reply = r; stores = after } ≡ editedTo quarter (s .lengths) (b .stores) (key (T (b .stores)) quarter k (held s (b .stores))) → 0 < r .code
+  pub press-refused : record { reply = r; stores = after } ≡ editedTo quarter (s .lengths) (b .stores) (key (T (b .stores)) quarter k (held s (b .stores)))
+      → 0 < r .code
       → (q : Reply) → q ≡ turnedDownReply (r .code) s → called q (record { stores = after; screen = b .screen }) ≡ keyed s k b
   press-refused edits positive q same =
       ap (λ x. called x (record { stores = after; screen = b .screen })) same
@@ -225,7 +225,7 @@ module _ (s : Session) (k : Key) (b : Lent) (fit : tabled (s .frame .h) (s .fram
       → record { reply = r; stores = after } ≡ editedTo quarter (s .lengths) (b .stores) o → r .code ≤ 0 → Accepted s k b after r
   unfolding tabled shown finished storesOf
   done-so (refused code) outcome e zero-code =
-      let number = refused-number (T (b .stores)) quarter k (held s (b .stores)) code outcome in
+      let number = refusal-number (T (b .stores)) quarter k (held s (b .stores)) code outcome in
       let same = refused-reply (s .lengths) (b .stores) after r code e .0 in
       absurd (⊎-elim (λ is-key. omega (arith, is-key, same)) (λ is-full. omega (arith, is-full, same)) number)
   done-so (done did) outcome e zero-code =
@@ -246,6 +246,7 @@ module _ (s : Session) (k : Key) (b : Lent) (fit : tabled (s .frame .h) (s .fram
             ∙ (ap (finished s b) (sym outcome) ∙ sym (session-keyed s k b fit ok)));
       }
 
-  pub press-done : record { reply = r; stores = after } ≡ editedTo quarter (s .lengths) (b .stores) (key (T (b .stores)) quarter k (held s (b .stores))) → r .code ≤ 0
+  pub press-done : record { reply = r; stores = after } ≡ editedTo quarter (s .lengths) (b .stores) (key (T (b .stores)) quarter k (held s (b .stores)))
+      → r .code ≤ 0
       → Accepted s k b after r
   press-done edits zero-code = done-so (key (T (b .stores)) quarter k (held s (b .stores))) refl edits zero-code

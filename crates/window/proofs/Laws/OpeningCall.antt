@@ -19,8 +19,8 @@ use Rattle.gap.proofs.Laws.Layout.{length-gapped, ungap-gapped}
 use Rattle.editor.specs.Rules.Refusals.{SIZE, LONG, TEXT}
 use Rattle.editor.specs.Rules.Plain.{quiet}
 use Rattle.gap.proofs.Laws.Nearest.{nearest-same}
-use Rattle.editor.specs.Rules.Bytes.{quarter, lengthsOf, storesOf}
-use Rattle.editor.specs.Wording.Promise.{stores, Opens, openingLengths}
+use Rattle.editor.specs.Rules.Bytes.{quarter, lengthsOf, storesOf, openingLengths}
+use Rattle.editor.specs.Wording.Promise.{stores, Opens}
 use Rattle.editor.proofs.Laws.Session.{measured}
 use Rattle.window.specs.Words.{Lengths}
 use Rattle.window.specs.declared.Rows.{Rows}
@@ -29,8 +29,7 @@ use Rattle.window.specs.Rules.Window.{virtualIn, window, visible}
 use Rattle.window.specs.Wording.Painter.{Canvas}
 use Rattle.window.specs.Rules.Core.{Lent, T, tabled, start, openedText, badByte, unlessBad, opened}
 use Rattle.window.specs.Wording.Calls.{Texts, virtualHeld, Refreshed, lent, called, unopenedReply}
-use Rattle.window.proofs.Laws.Views.{tabled-facts}
-use Rattle.window.proofs.Theorems.Sessions.{start-seen}
+use Rattle.window.proofs.Laws.Views.{tabled-facts, start-seen}
 
 -- ---- A text newly opened
 

@@ -2,23 +2,25 @@
 -- editor's key.
 use mathlib.Core.Path.{_≡_, ap, ap₂, _∙_}
 use mathlib.Core.Bool.{true, _&&_}
-use mathlib.Core.List.{List}
-use Prim.Native.Nat.{ℕ, _*_, _≤_}
+use mathlib.Core.List.{List, []}
+use Prim.Native.Nat.{ℕ, _+_, _*_, _≤_}
+use native.Mathlib.Omega.{arith}
 use lib.Dec.{leb}
 use lib.ListN.{length}
-use borrow.Author.Tests.{leb-true, eqb-true, eq-eqb}
+use borrow.Author.Tests.{leb-true, le-leb, eqb-true, eq-eqb}
+use Rattle.gap.specs.Rules.Lines.{newlines, sinceAfter}
 use Rattle.gap.proofs.Laws.Tests.{and-left, and-right, and-both, cond-true}
 use Rattle.gap.proofs.Laws.Layout.{length-gapped}
 use Rattle.editor.specs.declared.Key.{Key}
 use Rattle.editor.specs.Rules.Plain.{Outcome, refused, done}
 use Rattle.editor.specs.Rules.Keys.{key}
 use Rattle.editor.specs.Rules.Bytes.{Stores, quarter, sized, storesOf, editorOk}
-use Rattle.editor.proofs.Theorems.Layouts.{plain-of-encoded, encoded-sized, encoded-ok, session-encoded}
-use Rattle.editor.proofs.Theorems.Sessions.{key-keeps}
 use Rattle.window.specs.Words.{Session}
 use Rattle.window.specs.Rules.Window.{virtual, visible, policy}
-use Rattle.window.specs.Rules.Core.{Lent, T, rowsAndColumns, tabled, isSession, held, finished, keyed}
+use Rattle.window.specs.Rules.Core.{start, Lent, T, rowsAndColumns, tabled, isSession, held, finished, keyed}
 use Rattle.window.specs.Rules.Terminal.{View, looked, Good, recordOf, storesWith}
+use Rattle.editor.proofs.Laws.Encoding.{plain-of-encoded, encoded-sized, encoded-ok, session-encoded}
+use Rattle.editor.proofs.Laws.Keeps.{key-keeps}
 use Rattle.window.proofs.Laws.Window.{policy-visible}
 
 -- What the test of sizes tells.
@@ -120,3 +122,17 @@ looked-good size k v good (done did) e =
       seen =
           policy-visible (v .frame) (virtual (did .state)) (some-rows (v .frame .h) (v .frame .w) (good .tabled));
     }
+
+-- A cursor at the beginning is visible at the start.
+pub start-seen : (H W : ℕ) (text : List ℕ) → 1 ≤ H → visible (start H W) (record { l = []; r = text }) ≡ true
+unfolding visible newlines sinceAfter
+start-seen H W text h =
+    let row : 1 ≤ 0 + H = omega arith in
+    let column : 0 ≤ 0 + W = omega arith in
+    and-both (le-leb 1 (0 + H) row) (le-leb 0 (0 + W) column)
+
+-- On every session the key on bytes is the key on the plain state.
+pub session-keyed : (s : Session) (k : Key) (b : Lent) → tabled (s .frame .h) (s .frame .w) b ≡ true → isSession s (b .stores) ≡ true
+    → keyed s k b ≡ finished s b (key (T (b .stores)) quarter k (held s (b .stores)))
+unfolding keyed
+session-keyed s k b fit ok = cond-true _ _ fit ∙ cond-true _ _ ok

@@ -24,7 +24,8 @@ use Rattle.editor.specs.Rules.Plain.{Plain, Did, refused, done}
 use Rattle.editor.specs.Rules.Keys.{soundKey, pressed, fits, bounded, key}
 use Rattle.editor.specs.Rules.Bytes.{quarter}
 use Rattle.window.specs.Words.{Session}
-use Rattle.window.specs.Rules.Core.{Lent, Called, T, tabled, isSession, held, unopened, openedText, badByte, unlessBad, opened, turnedDown, shown, finished, keyed}
+use Rattle.window.specs.Rules.Core.{Lent, Called, T, tabled, isSession, held, unopened, openedText, badByte, unlessBad, opened}
+use Rattle.window.specs.Rules.Core.{turnedDown, shown, finished, keyed}
 use Rattle.window.specs.Rules.Refusals.{openingChecks, keyChecks}
 use Rattle.gap.proofs.Laws.Order.{exactly, accepted-exactly}
 

@@ -2,34 +2,23 @@
 -- plain state.
 use mathlib.Core.Path.{_≡_, refl, ap, subst⁻¹, _∙_}
 use mathlib.Core.Bool.{true}
-use mathlib.Core.List.{List, []}
-use Prim.Native.Nat.{ℕ, _+_, _≤_}
-use native.Mathlib.Omega.{arith}
+use Prim.Native.Nat.{ℕ}
 use lib.ListN.{take}
-use borrow.Author.Tests.{leb-true, le-leb}
-use Rattle.gap.specs.Rules.Lines.{newlines, sinceAfter}
-use Rattle.gap.proofs.Laws.Tests.{and-both, cond-true}
+use borrow.Author.Tests.{leb-true}
 use Rattle.editor.specs.declared.Key.{Key}
 use Rattle.editor.specs.Rules.Plain.{Outcome, refused, done}
 use Rattle.editor.specs.Rules.Keys.{key, after}
 use Rattle.editor.specs.Rules.Bytes.{quarter}
 use Rattle.editor.proofs.Theorems.Sessions.{opening-sound}
 use Rattle.window.specs.Words.{Session}
-use Rattle.window.specs.Rules.Window.{virtualIn, virtual, visible, policy}
-use Rattle.window.specs.Rules.Core.{Lent, T, tabled, isSession, held, start, openedText, opened, shown, finished, keyed}
+use Rattle.window.specs.Rules.Window.{virtualIn, virtual, policy}
+use Rattle.window.specs.Rules.Core.{Lent, T, tabled, isSession, held, openedText, opened, shown, finished, keyed}
 use Rattle.window.specs.Rules.Terminal.{View, openingView, looked, picture, Good}
 use Rattle.window.specs.Wording.Promise.{Follows}
-use Rattle.window.proofs.Laws.Views.{tabled-facts, viewOf, session-view, view-held, view-tabled, view-session, looked-good}
+use Rattle.window.proofs.Laws.Views as law
+use Rattle.window.proofs.Laws.Views.{start-seen, tabled-facts, viewOf, session-view, view-held, view-tabled, view-session, looked-good}
 use Rattle.window.proofs.Theorems.Refusals.{opening-accepted, opening-done}
 use Rattle.window.proofs.Laws.Window.{length-window}
-
--- A cursor at the beginning is visible at the start.
-pub start-seen : (H W : ℕ) (text : List ℕ) → 1 ≤ H → visible (start H W) (record { l = []; r = text }) ≡ true
-unfolding visible newlines sinceAfter
-start-seen H W text h =
-    let row : 1 ≤ 0 + H = omega arith in
-    let column : 0 ≤ 0 + W = omega arith in
-    and-both (le-leb 1 (0 + H) row) (le-leb 0 (0 + W) column)
 
 -- An opened text is a session.
 module _ (n H W : ℕ) (b : Lent) (accepts : opened n H W b .answer .code ≡ 0) where
@@ -65,8 +54,7 @@ module _ (n H W : ℕ) (b : Lent) (accepts : opened n H W b .answer .code ≡ 0)
 module _ (s : Session) (k : Key) (b : Lent) (fit : tabled (s .frame .h) (s .frame .w) b ≡ true) (ok : isSession s (b .stores) ≡ true) where
   -- On every session the key on bytes is the key on the plain state.
   pub session-keyed : keyed s k b ≡ finished s b (key (T (b .stores)) quarter k (held s (b .stores)))
-  unfolding keyed
-  session-keyed = cond-true _ _ fit ∙ cond-true _ _ ok
+  session-keyed = law.session-keyed s k b fit ok
 
   outcome-follows : (o : Outcome) → key (T (b .stores)) quarter k (held s (b .stores)) ≡ o → Follows (finished s b o) (after (held s (b .stores)) o)
   unfolding finished shown policy

@@ -8,8 +8,7 @@ use Rattle.gap.specs.Rules.Layout.{allowed}
 use Rattle.editor.specs.Rules.Refusals.{SIZE, LONG, TEXT, SESSION}
 use Rattle.editor.specs.Rules.Plain.{Plain, opening, quiet, Did, Outcome, refused, done}
 use Rattle.editor.specs.Rules.Keys.{key}
-use Rattle.editor.specs.Rules.Bytes.{Stores, quarter, sized, plainOf, lengthsOf, storesOf, editorOk}
-use Rattle.editor.specs.Wording.Promise.{openingLengths}
+use Rattle.editor.specs.Rules.Bytes.{Stores, quarter, sized, plainOf, lengthsOf, storesOf, editorOk, openingLengths}
 use Rattle.window.specs.Rules.Window.{virtual, rowOf, columnOf, window, visible, policy}
 use Rattle.window.specs.Rules.Rows.{firstRow, lastRow}
 

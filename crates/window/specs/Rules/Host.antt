@@ -1,5 +1,7 @@
 -- The host's boundary: record, key and answer as numbers. (DECISIONS D1 to D4.)
-use Rattle.window.specs.Words.{_&&_, cond, ℕ, eqb, leb, Left, Right, Direction, Action, Move, Delete, Mode, Main, Quoted, Place, Character, Word, LineBeginning, LineEnding, Document, Session, Answer, Key, Insert, Function, Recall, Quote, Find, Replace}
+use Rattle.window.specs.Words.{_&&_, cond, ℕ, eqb, leb, Left, Right, Direction, Action, Move, Delete, Mode, Main, Quoted, Place}
+use Rattle.window.specs.Words.{Character, Word, LineBeginning, LineEnding, Document, Session, Answer, Key, Insert, Function, Recall}
+use Rattle.window.specs.Words.{Quote, Find, Replace}
 use Rattle.editor.specs.Rules.Refusals.{SIZE, SESSION}
 use Rattle.gap.specs.Rules.Numbers.{bit}
 use Rattle.window.specs.declared.Reply.{Reply}

@@ -5,8 +5,7 @@ use Rattle.window.specs.Words.{List, [], _∷_, _++_, true, cond, ℕ, s
 use Rattle.gap.specs.Rules.Sequence.{part}
 use Rattle.editor.specs.Rules.Plain.{Plain, opening, Outcome, refused, done}
 use Rattle.editor.specs.Rules.Keys.{key}
-use Rattle.editor.specs.Rules.Bytes.{quarter, storesOf}
-use Rattle.editor.proofs.Laws.Sound.{SoundPlain}
+use Rattle.editor.specs.Rules.Bytes.{quarter, storesOf, SoundPlain}
 use Rattle.window.specs.Rules.Window.{virtual, window, visible, policy}
 use Rattle.window.specs.Rules.Core.{Lent, Called, rowsAndColumns, sessionOf, start, opened, keyed}
 

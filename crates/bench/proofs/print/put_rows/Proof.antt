@@ -12,54 +12,20 @@ Inv-loop h w screen out₀ at next₀ from₀ i₀ out next from i = Shown h w s
 abbrev μ-loop : tie.MeasureT-loop
 μ-loop h w screen out₀ at next₀ from₀ i₀ out next from i = h - i
 
-loop-holds : tie.Need-loop-holds Inv-loop μ-loop
-loop-holds c = shown-none _ _ _ _ _ (c .before .before .pre .0) (c .before .before .pre .1)
-
-add-to : tie.Need-add-to Inv-loop μ-loop
-add-to c = omega (arith, row-inside (c .before .loop .inv) (c .loop-test .taken))
-
-sub-put-row : tie.Need-sub-put-row Inv-loop μ-loop
-sub-put-row c = omega arith
-
-part-put-row-start : tie.Need-part-put-row-start Inv-loop μ-loop
-part-put-row-start c = omega arith
-
-part-put-row-end : tie.Need-part-put-row-end Inv-loop μ-loop
-part-put-row-end c = row-inside (c .before .loop .inv) (c .loop-test .taken)
-
-put-row-requires : tie.Need-put-row-requires Inv-loop μ-loop
-put-row-requires c κs = row-room (c .before .before .before .loop .inv) (c .before .before .loop-test .taken)
-
-add-i : tie.Need-add-i Inv-loop μ-loop
-add-i c = omega arith
-
-loop-less : tie.Need-loop-less Inv-loop μ-loop
-loop-less c = omega arith
-
 loop-again : tie.Need-loop-again Inv-loop μ-loop
 loop-again c =
     let turn = c .before .before .before .before .before in shown-more (turn .before .loop .inv) (turn .loop-test .taken) (c .before .before .put-row .ensures)
 
-same-length : tie.Need-same-length Inv-loop μ-loop
-same-length c = wrote-length (c .before .loop .inv .wrote)
-
-returns : tie.Need-returns Inv-loop μ-loop
-returns c = shown-all (c .before .loop .inv) (c .loop-test .left)
-
 pub put-rows-spec : {M : Type 1} → statement M
-put-rows-spec =
-    tie.close
-    (tie.spec
-    Inv-loop
-    μ-loop
-    loop-holds
-    add-to
-    sub-put-row
-    part-put-row-start
-    part-put-row-end
-    put-row-requires
-    add-i
-    loop-less
+put-rows-spec = tie.close (tie.spec Inv-loop μ-loop
+    (λ c. shown-none _ _ _ _ _ (c .before .before .pre .0) (c .before .before .pre .1))  -- loop-holds
+    (λ c. omega (arith, row-inside (c .before .loop .inv) (c .loop-test .taken)))  -- add-to
+    (λ c. omega arith)  -- sub-put-row
+    (λ c. omega arith)  -- part-put-row-start
+    (λ c. row-inside (c .before .loop .inv) (c .loop-test .taken))  -- part-put-row-end
+    (λ c κs. row-room (c .before .before .before .loop .inv) (c .before .before .loop-test .taken))  -- put-row-requires
+    (λ c. omega arith)  -- add-i
+    (λ c. omega arith)  -- loop-less
     loop-again
-    same-length
-    returns)
+    (λ c. wrote-length (c .before .loop .inv .wrote))  -- same-length
+    (λ c. shown-all (c .before .loop .inv) (c .loop-test .left)))  -- returns

@@ -5,36 +5,23 @@ use Rattle.bench.proofs.Laws.Beginnings.{input-long, input-read}
 use Rattle.bench.proofs.run.begin.Statement.{statement}
 use Rattle.bench.proofs.run.begin.Tie as tie
 
-returns : tie.Need-returns
-returns c = input-long _ (c .if1 .taken)
-
-heading-of-requires : tie.Need-heading-of-requires
-heading-of-requires c κs = search needs
-
-enum-known-heading : tie.Need-enum-known-heading
-enum-known-heading c = search needs
-
-unless-large-requires : tie.Need-unless-large-requires
-unless-large-requires c κs = search needs
-
-enum-known-heading-2 : tie.Need-enum-known-heading-2
-enum-known-heading-2 c = search needs
-
 returns-2 : tie.Need-returns-2
 returns-2 c =
-    input-read _ _ _ (c .before .before .before .before .before .if1 .left) (sym (c .before .before .heading .given .1) ∙ c .before .before .before .before .heading-of .ensures) (c .unless-large .ensures)
+    let told = c .before .before in
+    let read = told .before .before in
+    input-read _ _ _ (read .before .if1 .left) (sym (told .heading .given .1) ∙ read .heading-of .ensures) (c .unless-large .ensures)
 
 returns-3 : tie.Need-returns-3
-returns-3 c = input-read _ _ _ (c .before .before .before .before .if1 .left) (sym (c .before .heading2 .given .1) ∙ c .before .before .before .heading-of .ensures) refl
+returns-3 c =
+    let told = c .before in
+    let read = told .before .before in
+    input-read _ _ _ (read .before .if1 .left) (sym (told .heading2 .given .1) ∙ read .heading-of .ensures) refl
 
 pub begin-spec : {M : Type 1} → statement M
-begin-spec =
-    tie.close
-    (tie.spec
-    returns
-    heading-of-requires
-    enum-known-heading
-    unless-large-requires
-    enum-known-heading-2
-    returns-2
-    returns-3)
+begin-spec = tie.close (tie.spec
+    (λ c. input-long _ (c .if1 .taken))  -- returns
+    (λ c κs. search needs)  -- heading-of-requires
+    (λ c. search needs)  -- enum-known-heading
+    (λ c κs. search needs)  -- unless-large-requires
+    (λ c. search needs)  -- enum-known-heading-2
+    returns-2 returns-3)

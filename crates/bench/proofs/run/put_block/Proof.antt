@@ -5,33 +5,16 @@ use borrow.Author.Needs.{needs}
 use Rattle.bench.proofs.run.put_block.Statement.{statement}
 use Rattle.bench.proofs.run.put_block.Tie as tie
 
-put-refused-requires : tie.Need-put-refused-requires
-put-refused-requires c κs = search needs
-
-same-length : tie.Need-same-length
-same-length c = search needs
-
-returns : tie.Need-returns
-returns c = block-refused _ _ _ _ (c .before .before .before .before .if1 .taken) (c .before .before .put-refused .ensures)
-
 put-accepted-requires : tie.Need-put-accepted-requires
 put-accepted-requires c κs =
     let start : tie.Start = search in
     (start .pre .0 (omega (arith, c .before .if1 .left)), start .pre .1)
 
-same-length-2 : tie.Need-same-length-2
-same-length-2 c = search needs
-
-returns-2 : tie.Need-returns-2
-returns-2 c = block-accepted _ _ _ _ (c .before .before .before .before .if1 .left) (c .before .before .put-accepted .ensures)
-
 pub put-block-spec : {M : Type 1} → statement M
-put-block-spec =
-    tie.close
-    (tie.spec
-    put-refused-requires
-    same-length
-    returns
+put-block-spec = tie.close (tie.spec
+    (λ c κs. search needs)  -- put-refused-requires
+    (λ c. search needs)  -- same-length
+    (λ c. block-refused _ _ _ _ (c .before .before .before .before .if1 .taken) (c .before .before .put-refused .ensures))  -- returns
     put-accepted-requires
-    same-length-2
-    returns-2)
+    (λ c. search needs)  -- same-length-2
+    (λ c. block-accepted _ _ _ _ (c .before .before .before .before .if1 .left) (c .before .before .put-accepted .ensures)))  -- returns-2

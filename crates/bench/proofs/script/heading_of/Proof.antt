@@ -66,36 +66,12 @@ text c =
     let line = c .before .before in
     behind-read (fourth (to-fourth c)) (line .before .before .header-at4 .ensures) (line .n .given .1) (c .next-at4 .ensures)
 
-slice-aggregate-header-at : tie.Need-slice-aggregate-header-at
-slice-aggregate-header-at c = search needs
-
-header-at-requires : tie.Need-header-at-requires
-header-at-requires c κs = search needs
-
-enum-known-rows : tie.Need-enum-known-rows
-enum-known-rows c = search needs
-
-enum-told : tie.Need-enum-told
-enum-told c = search needs
-
 returns : tie.Need-returns
 unfolding bytes
 returns c = behind-broken (behind-none _) (c .before .before .header-at .ensures) (c .enum-told .given .1)
 
-next-at-requires : tie.Need-next-at-requires
-next-at-requires c κs = search needs
-
-slice-aggregate-header-at-2 : tie.Need-slice-aggregate-header-at-2
-slice-aggregate-header-at-2 c = search needs
-
 header-at-requires-2 : tie.Need-header-at-requires-2
 header-at-requires-2 c κs = (second (c .before) .fits, search needs)
-
-enum-known-columns : tie.Need-enum-known-columns
-enum-known-columns c = search needs
-
-enum-told-2 : tie.Need-enum-told-2
-enum-told-2 c = search needs
 
 returns-2 : tie.Need-returns-2
 unfolding bytes
@@ -104,17 +80,8 @@ returns-2 c = behind-broken (second (c .before .before .before .before)) (c .bef
 next-at-requires-2 : tie.Need-next-at-requires-2
 next-at-requires-2 c κs = second (c .before .before .before .before .before) .fits
 
-slice-aggregate-header-at-3 : tie.Need-slice-aggregate-header-at-3
-slice-aggregate-header-at-3 c = search needs
-
 header-at-requires-3 : tie.Need-header-at-requires-3
 header-at-requires-3 c κs = (third (c .before) .fits, search needs)
-
-enum-known-store : tie.Need-enum-known-store
-enum-known-store c = search needs
-
-enum-told-3 : tie.Need-enum-told-3
-enum-told-3 c = search needs
 
 returns-3 : tie.Need-returns-3
 unfolding bytes
@@ -123,17 +90,8 @@ returns-3 c = behind-broken (third (c .before .before .before .before)) (c .befo
 next-at-requires-3 : tie.Need-next-at-requires-3
 next-at-requires-3 c κs = third (c .before .before .before .before .before) .fits
 
-slice-aggregate-header-at-4 : tie.Need-slice-aggregate-header-at-4
-slice-aggregate-header-at-4 c = search needs
-
 header-at-requires-4 : tie.Need-header-at-requires-4
 header-at-requires-4 c κs = (fourth (c .before) .fits, search needs)
-
-enum-known-n : tie.Need-enum-known-n
-enum-known-n c = search needs
-
-enum-told-4 : tie.Need-enum-told-4
-enum-told-4 c = search needs
 
 returns-4 : tie.Need-returns-4
 unfolding bytes
@@ -152,33 +110,25 @@ returns-6 : tie.Need-returns-6
 returns-6 c = sym (text (c .before .before) ∙ cond-true _ _ (sym (c .before .text-there .ensures) ∙ not-false _ (c .if1 .left)))
 
 pub heading-of-spec : {M : Type 1} → statement M
-heading-of-spec =
-    tie.close
-    (tie.spec
-    slice-aggregate-header-at
-    header-at-requires
-    enum-known-rows
-    enum-told
+heading-of-spec = tie.close (tie.spec
+    (λ c. search needs)  -- slice-aggregate-header-at
+    (λ c κs. search needs)  -- header-at-requires
+    (λ c. search needs)  -- enum-known-rows
+    (λ c. search needs)  -- enum-told
     returns
-    next-at-requires
-    slice-aggregate-header-at-2
+    (λ c κs. search needs)  -- next-at-requires
+    (λ c. search needs)  -- slice-aggregate-header-at-2
     header-at-requires-2
-    enum-known-columns
-    enum-told-2
-    returns-2
-    next-at-requires-2
-    slice-aggregate-header-at-3
+    (λ c. search needs)  -- enum-known-columns
+    (λ c. search needs)  -- enum-told-2
+    returns-2 next-at-requires-2
+    (λ c. search needs)  -- slice-aggregate-header-at-3
     header-at-requires-3
-    enum-known-store
-    enum-told-3
-    returns-3
-    next-at-requires-3
-    slice-aggregate-header-at-4
+    (λ c. search needs)  -- enum-known-store
+    (λ c. search needs)  -- enum-told-3
+    returns-3 next-at-requires-3
+    (λ c. search needs)  -- slice-aggregate-header-at-4
     header-at-requires-4
-    enum-known-n
-    enum-told-4
-    returns-4
-    next-at-requires-4
-    text-there-requires
-    returns-5
-    returns-6)
+    (λ c. search needs)  -- enum-known-n
+    (λ c. search needs)  -- enum-told-4
+    returns-4 next-at-requires-4 text-there-requires returns-5 returns-6)

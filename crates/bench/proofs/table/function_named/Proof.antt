@@ -16,15 +16,6 @@ Inv-loop name i₀ i = Scan (λ j. sameBytes name (nameOf (combinationAt j))) 20
 abbrev μ-loop : tie.MeasureT-loop
 μ-loop name i₀ i = 20 - i
 
-loop-holds : tie.Need-loop-holds Inv-loop μ-loop
-loop-holds c = scan-start _ _ _
-
-is-named-requires : tie.Need-is-named-requires Inv-loop μ-loop
-is-named-requires c κs = search needs
-
-function-at-requires : tie.Need-function-at-requires Inv-loop μ-loop
-function-at-requires c κs = search needs
-
 returns : tie.Need-returns Inv-loop μ-loop
 unfolding functionNamed
 returns c =
@@ -32,12 +23,6 @@ returns c =
     let same = sym (compared .is-named .ensures) ∙ c .before .if1 .taken in
     ap Named (c .function-at .ensures)
     ∙ ap atRow (scan-found _ _ _ _ (compared .before .before .loop .inv) (omega arith) same)
-
-add-i : tie.Need-add-i Inv-loop μ-loop
-add-i c = search needs
-
-loop-less : tie.Need-loop-less Inv-loop μ-loop
-loop-less c = search needs
 
 loop-again : tie.Need-loop-again Inv-loop μ-loop
 loop-again c =
@@ -48,16 +33,11 @@ unfolding functionNamed
 returns-2 c = ap atRow (scan-none _ _ _ _ (c .before .loop .inv) (omega arith))
 
 pub function-named-spec : {M : Type 1} → statement M
-function-named-spec =
-    tie.close
-    (tie.spec
-    Inv-loop
-    μ-loop
-    loop-holds
-    is-named-requires
-    function-at-requires
+function-named-spec = tie.close (tie.spec Inv-loop μ-loop
+    (λ c. scan-start _ _ _)  -- loop-holds
+    (λ c κs. search needs)  -- is-named-requires
+    (λ c κs. search needs)  -- function-at-requires
     returns
-    add-i
-    loop-less
-    loop-again
-    returns-2)
+    (λ c. search needs)  -- add-i
+    (λ c. search needs)  -- loop-less
+    loop-again returns-2)

@@ -3,31 +3,24 @@ use mathlib.Core.Path.{sym, ap, _∙_}
 use lib.Seq.{length-take-le}
 use borrow.Author.Needs.{needs}
 use Rattle.gap.specs.Rules.Sequence.{sameBytes}
+use Rattle.bench.specs.Rules.Names.{combinationAt}
 use Rattle.bench.proofs.Laws.KeyTable.{name-fits, name-read}
 use Rattle.bench.proofs.table.is_named.Statement.{statement}
 use Rattle.bench.proofs.table.is_named.Tie as tie
 
-row-requires : tie.Need-row-requires
-row-requires c κs = search needs
-
-array-share-prefix-filled : tie.Need-array-share-prefix-filled
-array-share-prefix-filled c = name-fits _ (c .before .row .ensures)
-
 slice-aggregate-same-bytes : tie.Need-slice-aggregate-same-bytes
-slice-aggregate-same-bytes c = sym (length-take-le _ _ (name-fits _ (c .before .before .row .ensures)))
-
-same-bytes-requires : tie.Need-same-bytes-requires
-same-bytes-requires c κs = search needs
+slice-aggregate-same-bytes c =
+    let start : tie.Start = search in sym (length-take-le _ _ (name-fits (combinationAt (start .args .i)) (c .before .before .row .ensures)))
 
 returns : tie.Need-returns
-returns c = c .same-bytes .ensures ∙ ap (sameBytes _) (name-read _ (c .before .before .before .row .ensures))
+returns c =
+    let start : tie.Start = search in
+    c .same-bytes .ensures ∙ ap (sameBytes _) (name-read (combinationAt (start .args .i)) (c .before .before .before .row .ensures))
 
 pub is-named-spec : {M : Type 1} → statement M
-is-named-spec =
-    tie.close
-    (tie.spec
-    row-requires
-    array-share-prefix-filled
+is-named-spec = tie.close (tie.spec
+    (λ c κs. search needs)  -- row-requires
+    (λ c. let start : tie.Start = search in name-fits (combinationAt (start .args .i)) (c .before .row .ensures))  -- array-share-prefix-filled
     slice-aggregate-same-bytes
-    same-bytes-requires
+    (λ c κs. search needs)  -- same-bytes-requires
     returns)

@@ -8,85 +8,31 @@ use Rattle.bench.proofs.Laws.KeyNames.{five-words, named-as, named-inse
 use Rattle.bench.proofs.table.key_named.Statement.{statement}
 use Rattle.bench.proofs.table.key_named.Tie as tie
 
-slice-aggregate-begins-with : tie.Need-slice-aggregate-begins-with
-slice-aggregate-begins-with c = search needs
-
-begins-with-requires : tie.Need-begins-with-requires
-begins-with-requires c κs = search needs
-
-sub-number-of : tie.Need-sub-number-of
-sub-number-of c = begins-fits _ _ (sym (c .before .begins-with .ensures) ∙ c .if1 .taken)
-
-part-number-of-start : tie.Need-part-number-of-start
-part-number-of-start c = begins-fits _ _ (sym (c .before .begins-with .ensures) ∙ c .if1 .taken)
-
-part-number-of-end : tie.Need-part-number-of-end
-part-number-of-end c = search needs
-
-number-of-requires : tie.Need-number-of-requires
-number-of-requires c κs = search needs
-
-insert-numbered-requires : tie.Need-insert-numbered-requires
-insert-numbered-requires c κs = search needs
-
 returns : tie.Need-returns
 unfolding bytes
 returns c =
     let tested = c .before .before .before in
     named-insert _ (tested .before .begins-with .ensures) (tested .if1 .taken) (c .before .number-of .ensures) (c .insert-numbered .ensures)
 
-slice-aggregate-same-bytes : tie.Need-slice-aggregate-same-bytes
-slice-aggregate-same-bytes c = search needs
-
-same-bytes-requires : tie.Need-same-bytes-requires
-same-bytes-requires c κs = search needs
-
 returns-2 : tie.Need-returns-2
 unfolding bytes
 returns-2 c = named-as _ "recall" (five-words .recall) (c .before .same-bytes .ensures) (c .if2 .taken)
-
-slice-aggregate-same-bytes-2 : tie.Need-slice-aggregate-same-bytes-2
-slice-aggregate-same-bytes-2 c = search needs
-
-same-bytes-requires-2 : tie.Need-same-bytes-requires-2
-same-bytes-requires-2 c κs = search needs
 
 returns-3 : tie.Need-returns-3
 unfolding bytes
 returns-3 c = named-as _ "quote" (five-words .quote) (c .before .same-bytes2 .ensures) (c .if3 .taken)
 
-slice-aggregate-same-bytes-3 : tie.Need-slice-aggregate-same-bytes-3
-slice-aggregate-same-bytes-3 c = search needs
-
-same-bytes-requires-3 : tie.Need-same-bytes-requires-3
-same-bytes-requires-3 c κs = search needs
-
 returns-4 : tie.Need-returns-4
 unfolding bytes
 returns-4 c = named-as _ "find" (five-words .find) (c .before .same-bytes3 .ensures) (c .if4 .taken)
-
-slice-aggregate-same-bytes-4 : tie.Need-slice-aggregate-same-bytes-4
-slice-aggregate-same-bytes-4 c = search needs
-
-same-bytes-requires-4 : tie.Need-same-bytes-requires-4
-same-bytes-requires-4 c κs = search needs
 
 returns-5 : tie.Need-returns-5
 unfolding bytes
 returns-5 c = named-as _ "upfind" (five-words .upfind) (c .before .same-bytes4 .ensures) (c .if5 .taken)
 
-slice-aggregate-same-bytes-5 : tie.Need-slice-aggregate-same-bytes-5
-slice-aggregate-same-bytes-5 c = search needs
-
-same-bytes-requires-5 : tie.Need-same-bytes-requires-5
-same-bytes-requires-5 c κs = search needs
-
 returns-6 : tie.Need-returns-6
 unfolding bytes
 returns-6 c = named-as _ "replace" (five-words .replace) (c .before .same-bytes5 .ensures) (c .if6 .taken)
-
-function-named-requires : tie.Need-function-named-requires
-function-named-requires c κs = search needs
 
 returns-7 : tie.Need-returns-7
 unfolding keyNamed bytes
@@ -103,31 +49,29 @@ returns-7 c =
     (rw (sym (replace .before .same-bytes5 .ensures) ∙ replace .if6 .left) (c .function-named .ensures))))
 
 pub key-named-spec : {M : Type 1} → statement M
-key-named-spec =
-    tie.close
-    (tie.spec
-    slice-aggregate-begins-with
-    begins-with-requires
-    sub-number-of
-    part-number-of-start
-    part-number-of-end
-    number-of-requires
-    insert-numbered-requires
+key-named-spec = tie.close (tie.spec
+    (λ c. search needs)  -- slice-aggregate-begins-with
+    (λ c κs. search needs)  -- begins-with-requires
+    (λ c. begins-fits _ _ (sym (c .before .begins-with .ensures) ∙ c .if1 .taken))  -- sub-number-of
+    (λ c. begins-fits _ _ (sym (c .before .begins-with .ensures) ∙ c .if1 .taken))  -- part-number-of-start
+    (λ c. search needs)  -- part-number-of-end
+    (λ c κs. search needs)  -- number-of-requires
+    (λ c κs. search needs)  -- insert-numbered-requires
     returns
-    slice-aggregate-same-bytes
-    same-bytes-requires
+    (λ c. search needs)  -- slice-aggregate-same-bytes
+    (λ c κs. search needs)  -- same-bytes-requires
     returns-2
-    slice-aggregate-same-bytes-2
-    same-bytes-requires-2
+    (λ c. search needs)  -- slice-aggregate-same-bytes-2
+    (λ c κs. search needs)  -- same-bytes-requires-2
     returns-3
-    slice-aggregate-same-bytes-3
-    same-bytes-requires-3
+    (λ c. search needs)  -- slice-aggregate-same-bytes-3
+    (λ c κs. search needs)  -- same-bytes-requires-3
     returns-4
-    slice-aggregate-same-bytes-4
-    same-bytes-requires-4
+    (λ c. search needs)  -- slice-aggregate-same-bytes-4
+    (λ c κs. search needs)  -- same-bytes-requires-4
     returns-5
-    slice-aggregate-same-bytes-5
-    same-bytes-requires-5
+    (λ c. search needs)  -- slice-aggregate-same-bytes-5
+    (λ c κs. search needs)  -- same-bytes-requires-5
     returns-6
-    function-named-requires
+    (λ c κs. search needs)  -- function-named-requires
     returns-7)

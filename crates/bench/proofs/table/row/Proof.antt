@@ -7,15 +7,12 @@ use Rattle.bench.proofs.Laws.KeyTable.{row-made}
 use Rattle.bench.proofs.table.row.Statement.{statement}
 use Rattle.bench.proofs.table.row.Tie as tie
 
-mul-result : tie.Need-mul-result
-mul-result c = search needs
-
-array-copy-out-result : tie.Need-array-copy-out-result
-array-copy-out-result c = search needs
-
 returns : tie.Need-returns
 unfolding bytes zeros combinations
 returns c = row-made (c .before .args .i) _ (c .before .pre)
 
 pub row-spec : {M : Type 1} → statement M
-row-spec = tie.close (tie.spec mul-result array-copy-out-result returns)
+row-spec = tie.close (tie.spec
+    (λ c. search needs)  -- mul-result
+    (λ c. search needs)  -- array-copy-out-result
+    returns)

@@ -7,23 +7,18 @@ use Rattle.editor.proofs.Laws.MatchScans.{block-fits, block-none}
 use Rattle.editor.proofs.finds.block_match.Statement.{statement}
 use Rattle.editor.proofs.finds.block_match.Tie as tie
 
-none-likely-requires : tie.Need-none-likely-requires
-none-likely-requires c κs = (block-fits (c .before .before .before .pre .0) (c .lowest-place .ensures), c .before .before .before .pre .1)
-
 returns : tie.Need-returns
 returns c =
     let from = c .before .before in
     let pre = from .before .before .before .pre in
     block-none (pre .0) (from .lowest-place .ensures) _ (pre .1) (c .before .none-likely .ensures) (c .if1 .taken)
 
-returns-2 : tie.Need-returns-2
-returns-2 c = row-last (scan-start _ _ _) _ (omega arith) (c .first-match .ensures)
-
 pub block-match-spec : {M : Type 1} → statement M
 block-match-spec = tie.close (tie.spec
     (λ c. search needs)  -- add-lowest-place
     (λ c κs. search needs)  -- lowest-place-requires
-    none-likely-requires returns
+    (λ c κs. (block-fits (c .before .before .before .pre .0) (c .lowest-place .ensures), c .before .before .before .pre .1))  -- none-likely-requires
+    returns
     (λ c. search needs)  -- add-first-match
     (λ c κs. search needs)  -- first-match-requires
-    returns-2)
+    (λ c. row-last (scan-start _ _ _) _ (omega arith) (c .first-match .ensures)))  -- returns-2

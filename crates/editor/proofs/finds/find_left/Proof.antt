@@ -15,9 +15,6 @@ returns c =
     c .first-move .ensures _ (begins-empty _ _ (c .before .if1 .taken))
     ∙ distance-left _ _ _ _ (c .before .before .before .before .pre)
 
-returns-2 : tie.Need-returns-2
-returns-2 c = c .match-across .ensures ∙ distance-left _ _ _ _ (c .before .before .before .before .before .pre)
-
 returns-3 : tie.Need-returns-3
 returns-3 c =
     let start : tie.Start = search in
@@ -45,7 +42,7 @@ find-left-spec = tie.close (tie.spec
     (λ c κs. search needs)  -- first-move-requires
     returns
     (λ c κs. search needs)  -- match-across-requires
-    returns-2
+    (λ c. c .match-across .ensures ∙ distance-left _ _ _ _ (c .before .before .before .before .before .pre))  -- returns-2
     (λ c κs. search needs)  -- match-across-requires-2
     (λ c. search needs) (λ c. search needs)  -- enum-told .. enum-told-2
     returns-3

@@ -7,17 +7,11 @@ use Rattle.editor.proofs.Laws.MatchScans.{distance-right, right-short, 
 use Rattle.editor.proofs.finds.find_right.Statement.{statement}
 use Rattle.editor.proofs.finds.find_right.Tie as tie
 
-returns : tie.Need-returns
-returns c l = c .first-move .ensures _ (begins-empty _ _ (c .before .if1 .taken)) ∙ distance-right _ _
-
-returns-3 : tie.Need-returns-3
-returns-3 c l = right-rest _ _ _ (omega arith) (omega arith) (c .nearest-match .ensures) ∙ distance-right _ _
-
 pub find-right-spec : {M : Type 1} → statement M
 find-right-spec = tie.close (tie.spec
     (λ c κs. search needs)  -- first-move-requires
-    returns
+    (λ c l. c .first-move .ensures _ (begins-empty _ _ (c .before .if1 .taken)) ∙ distance-right _ _)  -- returns
     (λ c l. right-short _ _ (c .if2 .taken) ∙ distance-right _ _)  -- returns-2
     (λ c. search needs)  -- add-nearest-match
     (λ c κs. search needs)  -- nearest-match-requires
-    returns-3)
+    (λ c l. right-rest _ _ _ (omega arith) (omega arith) (c .nearest-match .ensures) ∙ distance-right _ _))  -- returns-3

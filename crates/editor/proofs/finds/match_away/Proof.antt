@@ -5,9 +5,6 @@ use Rattle.editor.proofs.Laws.MatchScans.{away-fits, away-compared, awa
 use Rattle.editor.proofs.finds.match_away.Statement.{statement}
 use Rattle.editor.proofs.finds.match_away.Tie as tie
 
-likely-requires : tie.Need-likely-requires
-likely-requires c κs = (away-fits (c .before .before .before .pre .0) (c .lowest-place .ensures), c .before .before .before .pre .1)
-
 run-begins-requires : tie.Need-run-begins-requires
 run-begins-requires c κs =
     let from = c .before .before in
@@ -27,4 +24,5 @@ returns-2 c =
 pub match-away-spec : {M : Type 1} → statement M
 match-away-spec = tie.close (tie.spec
     (λ c κs. search needs)  -- lowest-place-requires
-    likely-requires run-begins-requires returns returns-2)
+    (λ c κs. (away-fits (c .before .before .before .pre .0) (c .lowest-place .ensures), c .before .before .before .pre .1))  -- likely-requires
+    run-begins-requires returns returns-2)

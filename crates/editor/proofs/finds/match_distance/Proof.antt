@@ -4,9 +4,6 @@ use Rattle.editor.proofs.Laws.MatchScans.{found-right}
 use Rattle.editor.proofs.finds.match_distance.Statement.{statement}
 use Rattle.editor.proofs.finds.match_distance.Tie as tie
 
-returns-2 : tie.Need-returns-2
-returns-2 c = found-right _ _ _ _ (c .before .before .enum-told2 .given .1) (c .find-right .ensures)
-
 pub match-distance-spec : {M : Type 1} → statement M
 match-distance-spec = tie.close (tie.spec
     (λ c. search needs)  -- enum-told
@@ -18,4 +15,4 @@ match-distance-spec = tie.close (tie.spec
     (λ c. search needs)  -- part-find-right-end
     (λ c κs. search needs)  -- find-right-requires
     (λ c. rw (c .before .enum-told .given .1) (c .find-left .ensures))  -- returns
-    returns-2)
+    (λ c. found-right _ _ _ _ (c .before .before .enum-told2 .given .1) (c .find-right .ensures)))  -- returns-2

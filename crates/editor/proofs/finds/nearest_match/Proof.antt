@@ -36,9 +36,6 @@ first-match-requires c κs =
     let known = c .before .before in
     (reach-part (known .before .before .before .pre .0) (omega arith) (omega arith) (omega arith), known .telling .ensures .within)
 
-returns-2 : tie.Need-returns-2 Inv-loop μ-loop
-returns-2 c = row-last (c .before .before .loop .inv .1) _ (omega arith) (c .first-match .ensures)
-
 pub nearest-match-spec : {M : Type 1} → statement M
 nearest-match-spec = tie.close (tie.spec Inv-loop μ-loop
     (λ c κs. search needs)  -- telling-requires
@@ -49,4 +46,5 @@ nearest-match-spec = tie.close (tie.spec Inv-loop μ-loop
     returns
     (λ c. search needs)  -- add-d
     (λ c. search needs)  -- loop-less
-    loop-again first-match-requires returns-2)
+    loop-again first-match-requires
+    (λ c. row-last (c .before .before .loop .inv .1) _ (omega arith) (c .first-match .ensures)))  -- returns-2

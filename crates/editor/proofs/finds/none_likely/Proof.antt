@@ -16,9 +16,6 @@ Inv-loop t at pattern k none₀ i₀ none i = Tested (λ place. not (likelyAt pa
 abbrev μ-loop : tie.MeasureT-loop
 μ-loop t at pattern k none₀ i₀ none i = 32 - i
 
-loop-again : tie.Need-loop-again Inv-loop μ-loop
-loop-again c = numbers-more _ _ _ (c .before .before .loop .inv) (c .before .loop-test .taken) (ap not (c .likely .ensures))
-
 pub none-likely-spec : {M : Type 1} → statement M
 none-likely-spec = tie.close (tie.spec Inv-loop μ-loop
     (λ c. tested-start _ _)  -- loop-holds
@@ -26,5 +23,5 @@ none-likely-spec = tie.close (tie.spec Inv-loop μ-loop
     (λ c κs. search needs)  -- likely-requires
     (λ c. search needs)  -- add-i
     (λ c. search needs)  -- loop-less
-    loop-again
+    (λ c. numbers-more _ _ _ (c .before .before .loop .inv) (c .before .loop-test .taken) (ap not (c .likely .ensures)))  -- loop-again
     (λ c. numbers-all _ _ _ (c .before .loop .inv) (c .loop-test .left)))  -- returns

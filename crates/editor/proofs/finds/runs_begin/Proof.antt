@@ -7,9 +7,6 @@ use Rattle.gap.proofs.Laws.Compared.{begins-front, runs-same, runs-differ}
 use Rattle.editor.proofs.finds.runs_begin.Statement.{statement}
 use Rattle.editor.proofs.finds.runs_begin.Tie as tie
 
-returns : tie.Need-returns
-returns c = c .run-begins .ensures ∙ begins-front _ _ _ (c .before .if1 .taken)
-
 returns-2 : tie.Need-returns-2
 returns-2 c =
     let first = c .before .before .before in
@@ -27,7 +24,7 @@ returns-3 c =
 pub runs-begin-spec : {M : Type 1} → statement M
 runs-begin-spec = tie.close (tie.spec
     (λ c κs. search needs)  -- run-begins-requires
-    returns
+    (λ c. c .run-begins .ensures ∙ begins-front _ _ _ (c .before .if1 .taken))  -- returns
     (λ c. sym (length-take-le _ _ (omega arith)))  -- slice-aggregate-same-run
     (λ c κs. length-take-le _ _ (omega arith))  -- same-run-requires
     (λ c. search needs)  -- sub-run-begins

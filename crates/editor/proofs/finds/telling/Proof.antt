@@ -17,12 +17,6 @@ abbrev μ-loop : tie.MeasureT-loop
 returns : tie.Need-returns Inv-loop μ-loop
 returns c = record { within = omega arith; before = c .before .before .before .loop .inv .1; differs = λ more. c .if1 .taken }
 
-loop-again : tie.Need-loop-again Inv-loop μ-loop
-loop-again c = (omega arith, below-more _ _ (c .before .before .before .loop .inv .1) (c .if1 .left))
-
-returns-2 : tie.Need-returns-2 Inv-loop μ-loop
-returns-2 c = record { within = omega arith; before = c .before .loop .inv .1; differs = λ more. absurd (omega arith) }
-
 pub telling-spec : {M : Type 1} → statement M
 telling-spec = tie.close (tie.spec Inv-loop μ-loop
     (λ c. search needs)  -- shared-slice-read-head
@@ -32,4 +26,5 @@ telling-spec = tie.close (tie.spec Inv-loop μ-loop
     returns
     (λ c. search needs)  -- add-k
     (λ c. search needs)  -- loop-less
-    loop-again returns-2)
+    (λ c. (omega arith, below-more _ _ (c .before .before .before .loop .inv .1) (c .if1 .left)))  -- loop-again
+    (λ c. record { within = omega arith; before = c .before .loop .inv .1; differs = λ more. absurd (omega arith) }))  -- returns-2

@@ -4,11 +4,8 @@ use Rattle.editor.proofs.Laws.PlaceScans.{beginning-first, beginning-la
 use Rattle.editor.proofs.places.line_beginning_at.Statement.{statement}
 use Rattle.editor.proofs.places.line_beginning_at.Tie as tie
 
-returns-2 : tie.Need-returns-2
-returns-2 c = beginning-later _ _ (c .before .if1 .left) (c .before .before .pre)
-
 pub line-beginning-at-spec : {M : Type 1} → statement M
 line-beginning-at-spec = tie.close (tie.spec
     (λ c. beginning-first _ _ (c .if1 .taken))  -- returns
     (λ c. search needs)  -- shared-slice-read-result
-    returns-2)
+    (λ c. beginning-later _ _ (c .before .if1 .left) (c .before .before .pre)))  -- returns-2

@@ -6,12 +6,6 @@ use Rattle.editor.proofs.Laws.PlaceScans.{gap-left, gap-right}
 use Rattle.editor.proofs.places.place_distance.Statement.{statement}
 use Rattle.editor.proofs.places.place_distance.Tie as tie
 
-returns : tie.Need-returns
-returns c = gap-left _ _ _ _ (c .before .before .enum-told .given .1) (c .text-distance .ensures)
-
-returns-2 : tie.Need-returns-2
-returns-2 c = gap-right _ _ _ _ (c .before .before .enum-told2 .given .1) (c .text-distance2 .ensures)
-
 pub place-distance-spec : {M : Type 1} → statement M
 place-distance-spec = tie.close (tie.spec
     (λ c. search needs)  -- enum-told
@@ -23,4 +17,5 @@ place-distance-spec = tie.close (tie.spec
     (λ c. search needs)  -- part-text-distance-start
     (λ c. search needs)  -- part-text-distance-end
     (λ c κs. search needs)  -- text-distance-requires-2
-    returns returns-2)
+    (λ c. gap-left _ _ _ _ (c .before .before .enum-told .given .1) (c .text-distance .ensures))  -- returns
+    (λ c. gap-right _ _ _ _ (c .before .before .enum-told2 .given .1) (c .text-distance2 .ensures)))  -- returns-2

@@ -31,9 +31,6 @@ returns c other =
 loop-again : tie.Need-loop-again Inv-loop μ-loop
 loop-again c = scan-more _ _ _ _ (c .before .before .before .before .loop .inv) (omega arith) (away (c .before) ∙ c .if1 .left)
 
-returns-2 : tie.Need-returns-2 Inv-loop μ-loop
-returns-2 c other = scan-none _ _ _ _ (c .before .loop .inv) (omega arith) ∙ distance-away _ _ other _
-
 pub scan-spec : {M : Type 1} → statement M
 scan-spec = tie.close (tie.spec Inv-loop μ-loop
     (λ c. scan-start _ _ _)  -- loop-holds
@@ -41,4 +38,5 @@ scan-spec = tie.close (tie.spec Inv-loop μ-loop
     stands-requires returns
     (λ c. omega arith)  -- add-d
     (λ c. omega arith)  -- loop-less
-    loop-again returns-2)
+    loop-again
+    (λ c other. scan-none _ _ _ _ (c .before .loop .inv) (omega arith) ∙ distance-away _ _ other _))  -- returns-2

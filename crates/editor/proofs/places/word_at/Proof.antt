@@ -6,22 +6,12 @@ use Rattle.editor.proofs.Laws.PlaceScans.{word-first, word-newline, wor
 use Rattle.editor.proofs.places.word_at.Statement.{statement}
 use Rattle.editor.proofs.places.word_at.Tie as tie
 
-returns-2 : tie.Need-returns-2
-returns-2 c = word-newline _ _ (omega arith) (c .before .before .before .pre) (c .if2 .taken)
-
-returns-3 : tie.Need-returns-3
-returns-3 c = word-inside _ _ (omega arith) (c .before .before .before .before .pre) (c .before .if2 .left) (c .if3 .taken)
-
-returns-4 : tie.Need-returns-4
-returns-4 c = word-last _ _ (omega arith) (omega arith) (c .before .if3 .left) (c .if4 .taken)
-
-returns-5 : tie.Need-returns-5
-returns-5 c = word-before _ _ (omega arith) (omega arith) (c .before .before .if3 .left) (c .before .if4 .left)
-
 pub word-at-spec : {M : Type 1} → statement M
 word-at-spec = tie.close (tie.spec
     (λ c. word-first _ _ (c .if1 .taken))  -- returns
     (λ c. search needs)  -- shared-slice-read-a
-    returns-2 returns-3 returns-4
+    (λ c. word-newline _ _ (omega arith) (c .before .before .before .pre) (c .if2 .taken))  -- returns-2
+    (λ c. word-inside _ _ (omega arith) (c .before .before .before .before .pre) (c .before .if2 .left) (c .if3 .taken))  -- returns-3
+    (λ c. word-last _ _ (omega arith) (omega arith) (c .before .if3 .left) (c .if4 .taken))  -- returns-4
     (λ c. search needs)  -- shared-slice-read-b
-    returns-5)
+    (λ c. word-before _ _ (omega arith) (omega arith) (c .before .before .if3 .left) (c .before .if4 .left)))  -- returns-5

@@ -24,15 +24,11 @@ sub-m-2 c =
     let told : tie.After-enum-told2 = search in let start : tie.Start = search in
     rw (told .enum-told2 .given .1) at (start .pre .0)
 
-returns : tie.Need-returns
-returns c = let told : tie.After-enum-told = search in rw (told .enum-told .given .1)
-
-returns-2 : tie.Need-returns-2
-returns-2 c = let told : tie.After-enum-told2 = search in rw (told .enum-told2 .given .1)
-
 pub moved-by-spec : {M : Type 1} → statement M
 moved-by-spec = tie.close (tie.spec
     (λ c. search needs)  -- enum-told
     sub-m add-m
     (λ c. search needs)  -- enum-told-2
-    add-m-2 sub-m-2 returns returns-2)
+    add-m-2 sub-m-2
+    (λ c. let told : tie.After-enum-told = search in rw (told .enum-told .given .1))  -- returns
+    (λ c. let told : tie.After-enum-told2 = search in rw (told .enum-told2 .given .1)))  -- returns-2

@@ -3,9 +3,6 @@ use borrow.Author.Needs.{needs}
 use Rattle.editor.proofs.records.pattern_taken.Statement.{statement}
 use Rattle.editor.proofs.records.pattern_taken.Tie as tie
 
-returns : tie.Need-returns
-returns c = let told : tie.After-enum-told = search in rw (told .enum-told .given .1)
-
 returns-2 : tie.Need-returns-2
 returns-2 c =
     let cleared : tie.After-cleared = search in let told : tie.After-enum-told2 = search in
@@ -16,4 +13,5 @@ pattern-taken-spec = tie.close (tie.spec
     (λ c. search needs) (λ c. search needs)  -- enum-told .. enum-told-2
     (λ c κs. search needs)  -- cleared-requires
     (λ c. search needs)  -- add-m
-    returns returns-2)
+    (λ c. let told : tie.After-enum-told = search in rw (told .enum-told .given .1))  -- returns
+    returns-2)

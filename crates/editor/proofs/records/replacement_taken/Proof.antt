@@ -3,9 +3,6 @@ use borrow.Author.Needs.{needs}
 use Rattle.editor.proofs.records.replacement_taken.Statement.{statement}
 use Rattle.editor.proofs.records.replacement_taken.Tie as tie
 
-returns : tie.Need-returns
-returns c = let told : tie.After-enum-told = search in rw (told .enum-told .given .1)
-
 returns-2 : tie.Need-returns-2
 returns-2 c =
     let cleared : tie.After-cleared = search in let told : tie.After-enum-told2 = search in
@@ -15,4 +12,5 @@ pub replacement-taken-spec : {M : Type 1} → statement M
 replacement-taken-spec = tie.close (tie.spec
     (λ c. search needs) (λ c. search needs)  -- enum-told .. enum-told-2
     (λ c κs. search needs)  -- cleared-requires
-    returns returns-2)
+    (λ c. let told : tie.After-enum-told = search in rw (told .enum-told .given .1))  -- returns
+    returns-2)

@@ -46,8 +46,14 @@ exchange-fits-requires : tie.Need-exchange-fits-requires
 exchange-fits-requires c κs =
     let taken : tie.After-replacement-taken = search in let asked : tie.After-text-begins = search in let start = begun asked in
     let fit = fitting quarter _ _ (start .pre) in
-    let (document, replacement) = taken-fits quarter _ _ (taken .replacement-taken .ensures) fit in
-    (document, (λ here. taken-stands (start .args .n) _ (taken .replacement-taken .ensures) (pattern-stands quarter _ _ (start .pre) (sym (known asked) ∙ here)), replacement))
+    let (document, replacement) = taken-fits quarter _ _ (taken .replacement-taken .ensures) fit in (
+      document,
+      (
+        λ here. taken-stands (start .args .n) _ (taken .replacement-taken .ensures)
+            (pattern-stands quarter _ _ (start .pre) (sym (known asked) ∙ here)),
+        replacement,
+      ),
+    )
 
 returns : tie.Need-returns
 returns c =

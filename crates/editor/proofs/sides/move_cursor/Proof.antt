@@ -13,12 +13,6 @@ move-right-requires c κs =
     let start = c .before .before .before .before in
     (start .pre .0, rw (c .before .enum-told2 .given .1) at (start .pre .1))
 
-returns : tie.Need-returns
-returns c = rw (c .before .before .before .before .enum-told .given .1) (c .before .before .move-left .ensures)
-
-returns-2 : tie.Need-returns-2
-returns-2 c = rw (c .before .before .before .before .enum-told2 .given .1) (c .before .before .move-right .ensures)
-
 pub move-cursor-spec : {M : Type 1} → statement M
 move-cursor-spec = tie.close (tie.spec
     (λ c. search needs)  -- enum-told
@@ -26,6 +20,6 @@ move-cursor-spec = tie.close (tie.spec
     (λ c. search needs)  -- enum-told-2
     move-right-requires
     (λ c. search needs)  -- same-length
-    returns
+    (λ c. rw (c .before .before .before .before .enum-told .given .1) (c .before .before .move-left .ensures))  -- returns
     (λ c. search needs)  -- same-length-2
-    returns-2)
+    (λ c. rw (c .before .before .before .before .enum-told2 .given .1) (c .before .before .move-right .ensures)))  -- returns-2

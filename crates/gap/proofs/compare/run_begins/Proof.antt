@@ -4,13 +4,10 @@ use Rattle.gap.proofs.Laws.Compared.{run-short, run-same}
 use Rattle.gap.proofs.compare.run_begins.Statement.{statement}
 use Rattle.gap.proofs.compare.run_begins.Tie as tie
 
-returns : tie.Need-returns
-returns c = run-short _ (c .before .before .before .args .t .now) (c .before .before .before .args .at) (c .if1 .taken)
-
 pub run-begins-spec : {M : Type 1} → statement M
 run-begins-spec = tie.close (tie.spec
     (λ c. search needs)  -- sub-if1
-    returns
+    (λ c. run-short _ (c .before .before .before .args .t .now) (c .before .before .before .args .at) (c .if1 .taken))  -- returns
     (λ c. search needs)  -- add-end
     (λ c. search needs)  -- sub-same-run
     (λ c. search needs)  -- part-same-run-start

@@ -12,14 +12,11 @@ Inv-loop a b same₀ i₀ same i = Same a b same i
 abbrev μ-loop : tie.MeasureT-loop
 μ-loop a b same₀ i₀ same i = length a - i
 
-loop-again : tie.Need-loop-again Inv-loop μ-loop
-loop-again c = same-more (c .before .before .before .loop .inv) (c .before .before .loop-test .taken)
-
 pub same-run-spec : {M : Type 1} → statement M
 same-run-spec = tie.close (tie.spec Inv-loop μ-loop
     (λ c. same-start _ _ (c .pre))  -- loop-holds
     (λ c. search needs) (λ c. search needs)  -- shared-slice-read-same .. shared-slice-read-same-2
     (λ c. search needs)  -- add-i
     (λ c. search needs)  -- loop-less
-    loop-again
+    (λ c. same-more (c .before .before .before .loop .inv) (c .before .before .loop-test .taken))  -- loop-again
     (λ c. same-all (c .before .loop .inv) (c .loop-test .left)))  -- returns

@@ -16,10 +16,8 @@ value-of-requires c κs =
 returns : tie.Need-returns
 returns c = ap Read (c .value-of .ensures) ∙ number-read _ _ (sym (c .before .before .is-number .ensures) ∙ c .before .if1 .taken)
 
-returns-2 : tie.Need-returns-2
-returns-2 c = number-unread _ _ (sym (c .before .is-number .ensures) ∙ c .if1 .left)
-
 pub number-of-spec : {M : Type 1} → statement M
 number-of-spec = tie.close (tie.spec
     (λ c κs. search needs)  -- is-number-requires
-    value-of-requires returns returns-2)
+    value-of-requires returns
+    (λ c. number-unread _ _ (sym (c .before .is-number .ensures) ∙ c .if1 .left)))  -- returns-2

@@ -12,18 +12,12 @@ Inv-loop s at end₀ end = Unended s at end
 abbrev μ-loop : tie.MeasureT-loop
 μ-loop s at end₀ end = length s - end
 
-returns : tie.Need-returns Inv-loop μ-loop
-returns c = unended-found _ _ _ (c .before .before .before .loop .inv) (c .before .before .loop-test .taken) (c .if1 .taken)
-
-loop-again : tie.Need-loop-again Inv-loop μ-loop
-loop-again c = unended-more _ _ _ (c .before .before .before .loop .inv) (c .before .before .loop-test .taken) (c .if1 .left)
-
 pub end-at-spec : {M : Type 1} → statement M
 end-at-spec = tie.close (tie.spec Inv-loop μ-loop
     (λ c. unended-start _ _ (c .pre))  -- loop-holds
     (λ c. search needs)  -- shared-slice-read-if1
-    returns
+    (λ c. unended-found _ _ _ (c .before .before .before .loop .inv) (c .before .before .loop-test .taken) (c .if1 .taken))  -- returns
     (λ c. search needs)  -- add-end
     (λ c. search needs)  -- loop-less
-    loop-again
+    (λ c. unended-more _ _ _ (c .before .before .before .loop .inv) (c .before .before .loop-test .taken) (c .if1 .left))  -- loop-again
     (λ c. unended-all _ _ _ (c .before .loop .inv) (c .loop-test .left)))  -- returns-2

@@ -14,7 +14,9 @@ abbrev μ-loop : tie.MeasureT-loop
 μ-loop s i₀ i = i
 
 loop-again : tie.Need-loop-again Inv-loop μ-loop
-loop-again c = unbroken-both (unbroken-block (omega arith) (omega arith) (c .before .has-newline .ensures) (c .if1 .left)) (c .before .before .before .before .loop .inv)
+loop-again c =
+    unbroken-both (unbroken-block (omega arith) (omega arith) (c .before .has-newline .ensures) (c .if1 .left))
+    (c .before .before .before .before .loop .inv)
 
 pub back-without-spec : {M : Type 1} → statement M
 back-without-spec = tie.close (tie.spec Inv-loop μ-loop

@@ -15,7 +15,9 @@ abbrev μ-loop : tie.MeasureT-loop
 μ-loop s at n i₀ i = length s - i
 
 loop-again : tie.Need-loop-again Inv-loop μ-loop
-loop-again c = unbroken-both (c .before .before .before .before .loop .inv) (unbroken-block (omega arith) (omega arith) (c .before .has-newline .ensures) (c .if1 .left))
+loop-again c =
+    unbroken-both (c .before .before .before .before .loop .inv)
+    (unbroken-block (omega arith) (omega arith) (c .before .has-newline .ensures) (c .if1 .left))
 
 pub front-without-spec : {M : Type 1} → statement M
 front-without-spec = tie.close (tie.spec Inv-loop μ-loop

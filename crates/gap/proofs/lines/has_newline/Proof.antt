@@ -16,16 +16,11 @@ Inv-loop s none₀ i₀ none i = Tested (λ b. not (eqb b newline)) s none i
 abbrev μ-loop : tie.MeasureT-loop
 μ-loop s none₀ i₀ none i = length s - i
 
-loop-again : tie.Need-loop-again Inv-loop μ-loop
-loop-again c = tested-more _ _ _ _ (c .before .before .loop .inv) (c .before .loop-test .taken) refl
-
-returns : tie.Need-returns Inv-loop μ-loop
-returns c = ap not (tested-all _ _ _ _ (c .before .loop .inv) (c .loop-test .left))
-
 pub has-newline-spec : {M : Type 1} → statement M
 has-newline-spec = tie.close (tie.spec Inv-loop μ-loop
     (λ c. tested-start _ _)  -- loop-holds
     (λ c. omega arith)  -- shared-slice-read-none
     (λ c. omega arith)  -- add-i
     (λ c. omega arith)  -- loop-less
-    loop-again returns)
+    (λ c. tested-more _ _ _ _ (c .before .before .loop .inv) (c .before .loop-test .taken) refl)  -- loop-again
+    (λ c. ap not (tested-all _ _ _ _ (c .before .loop .inv) (c .loop-test .left))))  -- returns

@@ -13,12 +13,6 @@ Inv-loop n s i₀ i = Unbroken s i (length s)
 abbrev μ-loop : tie.MeasureT-loop
 μ-loop n s i₀ i = i
 
-returns : tie.Need-returns Inv-loop μ-loop
-returns c = since-found _ (c .before .before .before .loop .inv) (c .before .before .loop-test .taken) (c .if1 .taken)
-
-loop-again : tie.Need-loop-again Inv-loop μ-loop
-loop-again c = unbroken-both (unbroken-byte (omega arith) (omega arith) (c .if1 .left)) (c .before .before .before .loop .inv)
-
 pub since-newline-spec : {M : Type 1} → statement M
 since-newline-spec = tie.close (tie.spec Inv-loop μ-loop
     (λ c κs. search needs)  -- back-without-requires
@@ -26,8 +20,8 @@ since-newline-spec = tie.close (tie.spec Inv-loop μ-loop
     (λ c. omega arith)  -- sub-last
     (λ c. omega arith)  -- shared-slice-read-if1
     (λ c. omega arith)  -- sub-result
-    returns
+    (λ c. since-found _ (c .before .before .before .loop .inv) (c .before .before .loop-test .taken) (c .if1 .taken))  -- returns
     (λ c. omega arith)  -- loop-less
-    loop-again
+    (λ c. unbroken-both (unbroken-byte (omega arith) (omega arith) (c .if1 .left)) (c .before .before .before .loop .inv))  -- loop-again
     (λ c. omega arith)  -- add-result
     (λ c. since-none _ (c .before .loop .inv) (c .loop-test .left)))  -- returns-2

@@ -5,12 +5,9 @@ use Rattle.gap.proofs.Laws.Runs.{cleared-from}
 use Rattle.gap.proofs.runs.clear_from.Statement.{statement}
 use Rattle.gap.proofs.runs.clear_from.Tie as tie
 
-returns : tie.Need-returns
-returns c = c .before .before .vacate .ensures ∙ cleared-from _ _ (c .before .before .before .before .before .pre)
-
 pub clear-from-spec : {M : Type 1} → statement M
 clear-from-spec = tie.close (tie.spec
     (λ c. search needs)  -- sub-rest
     (λ c κs. search needs)  -- vacate-requires
     (λ c. search needs)  -- same-length
-    returns)
+    (λ c. c .before .before .vacate .ensures ∙ cleared-from _ _ (c .before .before .before .before .before .pre)))  -- returns

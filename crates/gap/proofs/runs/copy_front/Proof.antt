@@ -13,9 +13,6 @@ Inv-loop s₀ run i₀ s i = Copied run s₀ i s
 abbrev μ-loop : tie.MeasureT-loop
 μ-loop s₀ run i₀ s i = length run - i
 
-loop-again : tie.Need-loop-again Inv-loop μ-loop
-loop-again c = copied-more (c .before .before .loop .inv) (c .before .loop-test .taken) refl
-
 pub copy-front-spec : {M : Type 1} → statement M
 copy-front-spec = tie.close (tie.spec Inv-loop μ-loop
     (λ c. copied-none _ _ (c .pre))  -- loop-holds
@@ -23,6 +20,6 @@ copy-front-spec = tie.close (tie.spec Inv-loop μ-loop
     (λ c. omega arith)  -- slice-write-s
     (λ c. omega arith)  -- add-i
     (λ c. omega arith)  -- loop-less
-    loop-again
+    (λ c. copied-more (c .before .before .loop .inv) (c .before .loop-test .taken) refl)  -- loop-again
     (λ c. c .before .loop .inv .same)  -- same-length
     (λ c. copied-all (c .before .loop .inv) (c .loop-test .left)))  -- returns

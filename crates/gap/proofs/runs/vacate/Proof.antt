@@ -4,9 +4,6 @@ use Rattle.gap.proofs.Laws.Runs.{part-cleared}
 use Rattle.gap.proofs.runs.vacate.Statement.{statement}
 use Rattle.gap.proofs.runs.vacate.Tie as tie
 
-returns : tie.Need-returns
-returns c = part-cleared _ _ _ (c .before .before .before .before .before .pre) _ (c .before .before .clear .ensures)
-
 pub vacate-spec : {M : Type 1} → statement M
 vacate-spec = tie.close (tie.spec
     (λ c. search needs)  -- add-end
@@ -15,4 +12,4 @@ vacate-spec = tie.close (tie.spec
     (λ c. search needs)  -- part-clear-end
     (λ c κs. search needs)  -- clear-requires
     (λ c. search needs)  -- same-length
-    returns)
+    (λ c. part-cleared _ _ _ (c .before .before .before .before .before .pre) _ (c .before .before .clear .ensures)))  -- returns

@@ -19,9 +19,6 @@ loop-again c =
     let inside : tie.In-loop Inv-loop μ-loop = search in
     tested-more allowed _ _ _ (inside .before .loop .inv) (inside .loop-test .taken) (c .is-allowed .ensures)
 
-returns : tie.Need-returns Inv-loop μ-loop
-returns c = tested-all allowed _ _ _ (c .before .loop .inv) (c .loop-test .left)
-
 pub all-allowed-spec : {M : Type 1} → statement M
 all-allowed-spec = tie.close (tie.spec Inv-loop μ-loop
     (λ c. tested-start allowed _)  -- loop-holds
@@ -29,4 +26,5 @@ all-allowed-spec = tie.close (tie.spec Inv-loop μ-loop
     (λ c κs. search needs)  -- is-allowed-requires
     (λ c. omega arith)  -- add-i
     (λ c. omega arith)  -- loop-less
-    loop-again returns)
+    loop-again
+    (λ c. tested-all allowed _ _ _ (c .before .loop .inv) (c .loop-test .left)))  -- returns

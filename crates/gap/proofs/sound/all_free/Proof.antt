@@ -14,16 +14,11 @@ Inv-loop s ok₀ i₀ ok i = Tested free s ok i
 abbrev μ-loop : tie.MeasureT-loop
 μ-loop s ok₀ i₀ ok i = length s - i
 
-loop-again : tie.Need-loop-again Inv-loop μ-loop
-loop-again c = tested-more free _ _ _ (c .before .before .loop .inv) (c .before .loop-test .taken) refl
-
-returns : tie.Need-returns Inv-loop μ-loop
-returns c = tested-all free _ _ _ (c .before .loop .inv) (c .loop-test .left)
-
 pub all-free-spec : {M : Type 1} → statement M
 all-free-spec = tie.close (tie.spec Inv-loop μ-loop
     (λ c. tested-start free _)  -- loop-holds
     (λ c. omega arith)  -- shared-slice-read-ok
     (λ c. omega arith)  -- add-i
     (λ c. omega arith)  -- loop-less
-    loop-again returns)
+    (λ c. tested-more free _ _ _ (c .before .before .loop .inv) (c .before .loop-test .taken) refl)  -- loop-again
+    (λ c. tested-all free _ _ _ (c .before .loop .inv) (c .loop-test .left)))  -- returns

@@ -19,9 +19,6 @@ loop-again c =
     let inside : tie.In-loop Inv-loop μ-loop = search in
     tested-more printable _ _ _ (inside .before .loop .inv) (inside .loop-test .taken) (c .is-printable .ensures)
 
-returns : tie.Need-returns Inv-loop μ-loop
-returns c = tested-all printable _ _ _ (c .before .loop .inv) (c .loop-test .left)
-
 pub all-printable-spec : {M : Type 1} → statement M
 all-printable-spec = tie.close (tie.spec Inv-loop μ-loop
     (λ c. tested-start printable _)  -- loop-holds
@@ -29,4 +26,5 @@ all-printable-spec = tie.close (tie.spec Inv-loop μ-loop
     (λ c κs. search needs)  -- is-printable-requires
     (λ c. omega arith)  -- add-i
     (λ c. omega arith)  -- loop-less
-    loop-again returns)
+    loop-again
+    (λ c. tested-all printable _ _ _ (c .before .loop .inv) (c .loop-test .left)))  -- returns

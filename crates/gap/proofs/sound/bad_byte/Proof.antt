@@ -15,9 +15,6 @@ Inv-loop s i₀ i = PassedUpTo allowed s i
 abbrev μ-loop : tie.MeasureT-loop
 μ-loop s i₀ i = length s - i
 
-returns : tie.Need-returns Inv-loop μ-loop
-returns c = every-nowhere allowed _ (c .before .all-allowed .ensures) (c .if1 .taken)
-
 returns-2 : tie.Need-returns-2 Inv-loop μ-loop
 returns-2 c =
     let tested : tie.After-is-allowed Inv-loop μ-loop = search in let inside : tie.In-loop Inv-loop μ-loop = search in
@@ -28,17 +25,15 @@ loop-again c =
     let tested : tie.After-is-allowed Inv-loop μ-loop = search in let inside : tie.In-loop Inv-loop μ-loop = search in
     passed-more allowed _ _ (inside .before .loop .inv) (inside .loop-test .taken) (tested .is-allowed .ensures) (c .if2 .left)
 
-returns-3 : tie.Need-returns-3 Inv-loop μ-loop
-returns-3 c = passed-all allowed _ _ (c .before .loop .inv) (c .loop-test .left)
-
 pub bad-byte-spec : {M : Type 1} → statement M
 bad-byte-spec = tie.close (tie.spec Inv-loop μ-loop
     (λ c κs. search needs)  -- all-allowed-requires
-    returns
+    (λ c. every-nowhere allowed _ (c .before .all-allowed .ensures) (c .if1 .taken))  -- returns
     (λ c. passed-start allowed _)  -- loop-holds
     (λ c. omega arith)  -- shared-slice-read-is-allowed
     (λ c κs. search needs)  -- is-allowed-requires
     returns-2
     (λ c. omega arith)  -- add-i
     (λ c. omega arith)  -- loop-less
-    loop-again returns-3)
+    loop-again
+    (λ c. passed-all allowed _ _ (c .before .loop .inv) (c .loop-test .left)))  -- returns-3

@@ -5,13 +5,10 @@ use Rattle.gap.proofs.Laws.StoreTests.{long-gap, gap-parts}
 use Rattle.gap.proofs.sound.sound_gap.Statement.{statement}
 use Rattle.gap.proofs.sound.sound_gap.Tie as tie
 
-returns : tie.Need-returns
-returns c = gap-parts _ _ _ (c .before .before .fit .ensures .0 (c .before .if1 .taken)) (c .free-between .ensures)
-
 pub sound-gap-spec : {M : Type 1} → statement M
 sound-gap-spec = tie.close (tie.spec
     (λ c κs. search needs)  -- fit-requires
     (λ c. omega (arith, c .before .fit .ensures .0 (c .if1 .taken)))  -- sub-free-between
     (λ c κs. omega (arith, c .before .fit .ensures .0 (c .if1 .taken)))  -- free-between-requires
-    returns
+    (λ c. gap-parts _ _ _ (c .before .before .fit .ensures .0 (c .before .if1 .taken)) (c .free-between .ensures))  -- returns
     (λ c. long-gap _ _ _ (c .before .fit .ensures .1 (c .if1 .left))))  -- returns-2

@@ -5,12 +5,9 @@ use Rattle.gap.proofs.Laws.Moves.{moves}
 use Rattle.gap.proofs.texts.move_right.Statement.{statement}
 use Rattle.gap.proofs.texts.move_right.Tie as tie
 
-returns : tie.Need-returns
-returns c = moves Right (c .before .before .before .before .before .pre) (c .before .before .shift .ensures)
-
 pub move-right-spec : {M : Type 1} → statement M
 move-right-spec = tie.close (tie.spec
     (λ c. search needs)  -- sub-back
     (λ c κs. search needs)  -- shift-requires
     (λ c. search needs)  -- same-length
-    returns)
+    (λ c. moves Right (c .before .before .before .before .before .pre) (c .before .before .shift .ensures)))  -- returns

@@ -8,9 +8,6 @@ use Rattle.window.proofs.Laws.KeyCall.{texts-held, no-session, session-
 use Rattle.window.proofs.calls.is_session.Statement.{statement}
 use Rattle.window.proofs.calls.is_session.Tie as tie
 
-returns : tie.Need-returns
-returns c = no-session _ _ (sym (c .before .editor-ok .ensures) ∙ not-true _ (c .if1 .taken))
-
 -- The editor's test has passed.
 sound : (c : tie.Else1) → let s = c .before .before .before .before .before .before .before in
     Sound quarter (s .args .s .lengths) (stores (s .args .text .now) (s .args .recall .now) (s .args .side .now))
@@ -30,6 +27,7 @@ returns-2 c = session-so _ _ (sound (c .before .before) .ok) _ (c .before .curso
 pub is-session-spec : {M : Type 1} → statement M
 is-session-spec = tie.close (tie.spec
     (λ c κs. search needs)  -- editor-ok-requires
-    returns cursor-requires
+    (λ c. no-session _ _ (sym (c .before .editor-ok .ensures) ∙ not-true _ (c .if1 .taken)))  -- returns
+    cursor-requires
     (λ c κs. search needs)  -- is-visible-requires
     returns-2)

@@ -9,10 +9,8 @@ use Rattle.window.proofs.Laws.KeyCall.{not-tabled, tabled-so, product-s
 use Rattle.window.proofs.calls.tabled_stores.Statement.{statement}
 use Rattle.window.proofs.calls.tabled_stores.Tie as tie
 
-returns : tie.Need-returns
-returns c = not-tabled _ _ _ (sym (c .before .rows-and-columns .ensures) ∙ not-true _ (c .if1 .taken))
-
-small : (c : tie.Else1) → rowsAndColumns (c .before .before .before .before .before .before .args .h) (c .before .before .before .before .before .before .args .w) ≡ true
+small : (c : tie.Else1)
+    → rowsAndColumns (c .before .before .before .before .before .before .args .h) (c .before .before .before .before .before .before .args .w) ≡ true
 small c = sym (c .before .rows-and-columns .ensures) ∙ not-false _ (c .if1 .left)
 
 mul-result : tie.Need-mul-result
@@ -26,6 +24,6 @@ returns-2 c = tabled-so _ _ _ _ (c .sized-stores .ensures) (small (c .before))
 pub tabled-stores-spec : {M : Type 1} → statement M
 tabled-stores-spec = tie.close (tie.spec
     (λ c κs. search needs)  -- rows-and-columns-requires
-    returns
+    (λ c. not-tabled _ _ _ (sym (c .before .rows-and-columns .ensures) ∙ not-true _ (c .if1 .taken)))  -- returns
     (λ c κs. search needs)  -- sized-stores-requires
     mul-result returns-2)

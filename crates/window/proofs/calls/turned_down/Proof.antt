@@ -4,10 +4,7 @@ use borrow.Author.Needs.{needs}
 use Rattle.window.proofs.calls.turned_down.Statement.{statement}
 use Rattle.window.proofs.calls.turned_down.Tie as tie
 
-returns : tie.Need-returns
-returns c = ap (λ a. record { answer = a; session = c .before .args .s }) (c .refusal .ensures)
-
 pub turned-down-spec : {M : Type 1} → statement M
 turned-down-spec = tie.close (tie.spec
     (λ c κs. search needs)  -- refusal-requires
-    returns)
+    (λ c. ap (λ a. record { answer = a; session = c .before .args .s }) (c .refusal .ensures)))  -- returns

@@ -13,9 +13,6 @@ Inv-loop cells₀ run same₀ i₀ cells same i = CellsWritten run cells₀ cell
 abbrev μ-loop : tie.MeasureT-loop
 μ-loop cells₀ run same₀ i₀ cells same i = length run - i
 
-loop-again : tie.Need-loop-again Inv-loop μ-loop
-loop-again c = written-more (c .before .before .before .loop .inv) (c .before .before .loop-test .taken) refl
-
 pub put-run-spec : {M : Type 1} → statement M
 put-run-spec = tie.close (tie.spec Inv-loop μ-loop
     (λ c. written-none _ _ (c .pre))  -- loop-holds
@@ -24,6 +21,6 @@ put-run-spec = tie.close (tie.spec Inv-loop μ-loop
     (λ c. omega arith)  -- slice-write-cells
     (λ c. omega arith)  -- add-i
     (λ c. omega arith)  -- loop-less
-    loop-again
+    (λ c. written-more (c .before .before .before .loop .inv) (c .before .before .loop-test .taken) refl)  -- loop-again
     (λ c. c .before .loop .inv .copied .same)  -- same-length
     (λ c. written-all (c .before .loop .inv) (c .loop-test .left)))  -- returns

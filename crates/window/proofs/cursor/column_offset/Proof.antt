@@ -4,14 +4,9 @@ use Rattle.window.proofs.Laws.Spots.{policy-left, policy-right, policy-
 use Rattle.window.proofs.cursor.column_offset.Statement.{statement}
 use Rattle.window.proofs.cursor.column_offset.Tie as tie
 
-returns-2 : tie.Need-returns-2
-returns-2 c = policy-right (c .before .before .args .f) _ (c .before .if1 .left) (c .if2 .taken)
-
-returns-3 : tie.Need-returns-3
-returns-3 c = policy-column-stays (c .before .before .args .f) _ (c .before .if1 .left) (c .if2 .left)
-
 pub column-offset-spec : {M : Type 1} → statement M
 column-offset-spec = tie.close (tie.spec
     (λ c. policy-left (c .before .args .f) _ (c .if1 .taken))  -- returns
     (λ c. search needs)  -- sub-result
-    returns-2 returns-3)
+    (λ c. policy-right (c .before .before .args .f) _ (c .before .if1 .left) (c .if2 .taken))  -- returns-2
+    (λ c. policy-column-stays (c .before .before .args .f) _ (c .before .if1 .left) (c .if2 .left)))  -- returns-3

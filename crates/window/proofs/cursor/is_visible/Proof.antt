@@ -4,9 +4,6 @@ use Rattle.window.proofs.Laws.Spots.{hidden-above, hidden-below, hidden
 use Rattle.window.proofs.cursor.is_visible.Statement.{statement}
 use Rattle.window.proofs.cursor.is_visible.Tie as tie
 
-returns : tie.Need-returns
-returns c = hidden-above (c .before .args .f) (c .before .args .s) (c .if1 .taken)
-
 returns-2 : tie.Need-returns-2
 returns-2 c =
     let below = c .before .before in
@@ -24,6 +21,7 @@ returns-4 c =
     tested-right (below .before .args .f) (below .before .args .s) (below .if1 .left) (inside .if2 .left) (c .before .if3 .left)
 
 pub is-visible-spec : {M : Type 1} → statement M
-is-visible-spec = tie.close (tie.spec returns
+is-visible-spec = tie.close (tie.spec
+    (λ c. hidden-above (c .before .args .f) (c .before .args .s) (c .if1 .taken))  -- returns
     (λ c. search needs)  -- sub-if2
     returns-2 returns-3 returns-4)

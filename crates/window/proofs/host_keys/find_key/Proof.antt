@@ -6,11 +6,8 @@ use Rattle.window.specs.Words.{Find}
 use Rattle.window.proofs.host_keys.find_key.Statement.{statement}
 use Rattle.window.proofs.host_keys.find_key.Tie as tie
 
-returns-2 : tie.Need-returns-2
-returns-2 c = rw (le-leb _ _ (c .before .if1 .left)) (ap Find (c .direction-of .ensures))
-
 pub find-key-spec : {M : Type 1} → statement M
 find-key-spec = tie.close (tie.spec
     (λ c. rw (lt-leb _ _ (c .if1 .taken)))  -- returns
     (λ c κs. search needs)  -- direction-of-requires
-    returns-2)
+    (λ c. rw (le-leb _ _ (c .before .if1 .left)) (ap Find (c .direction-of .ensures))))  -- returns-2

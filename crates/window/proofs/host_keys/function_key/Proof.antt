@@ -5,12 +5,6 @@ use Rattle.window.specs.Words.{Function}
 use Rattle.window.proofs.host_keys.function_key.Statement.{statement}
 use Rattle.window.proofs.host_keys.function_key.Tie as tie
 
-returns-2 : tie.Need-returns-2
-returns-2 c = rw (le-leb _ _ (c .before .if1 .left), lt-leb _ _ (c .if2 .taken))
-
-returns-3 : tie.Need-returns-3
-returns-3 c = rw (le-leb _ _ (c .before .before .if1 .left), le-leb _ _ (c .before .if2 .left), lt-leb _ _ (c .if3 .taken))
-
 returns-4 : tie.Need-returns-4
 returns-4 c =
     let tested = c .before .before .before in
@@ -23,7 +17,8 @@ returns-4 c =
 pub function-key-spec : {M : Type 1} → statement M
 function-key-spec = tie.close (tie.spec
     (λ c. rw (lt-leb _ _ (c .if1 .taken)))  -- returns
-    returns-2 returns-3
+    (λ c. rw (le-leb _ _ (c .before .if1 .left), lt-leb _ _ (c .if2 .taken)))  -- returns-2
+    (λ c. rw (le-leb _ _ (c .before .before .if1 .left), le-leb _ _ (c .before .if2 .left), lt-leb _ _ (c .if3 .taken)))  -- returns-3
     (λ c κs. search needs)  -- action-of-requires
     (λ c κs. search needs)  -- direction-of-requires
     (λ c κs. search needs)  -- place-of-requires

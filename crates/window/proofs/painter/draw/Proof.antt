@@ -15,14 +15,8 @@ Inv-loop f t screen₀ n bottom now₀ i₀ screen now i = Drawn f t (sheet now�
 abbrev μ-loop : tie.MeasureT-loop
 μ-loop f t screen₀ n bottom now₀ i₀ screen now i = length t - i
 
-loop-holds : tie.Need-loop-holds Inv-loop μ-loop
-loop-holds c = drawn-none (c .before .before .before .pre .0) (c .before .before .before .pre .1)
-
 same-length : tie.Need-same-length Inv-loop μ-loop
 same-length c = c .before .before .loop .inv .easel .long ∙ sym (c .before .before .before .before .before .before .pre .0 .long)
-
-part-draw-run-start : tie.Need-part-draw-run-start Inv-loop μ-loop
-part-draw-run-start c = omega (arith, c .run-end .ensures .low, c .run-end .ensures .high)
 
 draw-run-requires : tie.Need-draw-run-requires Inv-loop μ-loop
 draw-run-requires c κs =
@@ -69,19 +63,18 @@ loop-again c =
     let run = drawn-run row (found .run-end .ensures) (ran .draw-run .ensures) in
     drawn-line run (branch .if2 .left) (found .run-end .ensures .stop (branch .if2 .left)) (c .before .before .end-row .ensures)
 
-same-length-3 : tie.Need-same-length-3 Inv-loop μ-loop
-same-length-3 c = c .before .loop .inv .easel .long ∙ sym (c .before .before .before .before .before .pre .0 .long)
-
 pub draw-spec : {M : Type 1} → statement M
 draw-spec = tie.close (tie.spec Inv-loop μ-loop
     (λ c. omega arith)  -- add-bottom
-    loop-holds same-length
+    (λ c. drawn-none (c .before .before .before .pre .0) (c .before .before .before .pre .1))  -- loop-holds
+    same-length
     (λ c. drawn-over (c .before .before .loop .inv) (c .if1 .taken))  -- returns
     (λ c κs. c .before .before .loop .inv .within)  -- run-end-requires
     (λ c. c .run-end .ensures .low)  -- sub-draw-run
-    part-draw-run-start
+    (λ c. omega (arith, c .run-end .ensures .low, c .run-end .ensures .high))  -- part-draw-run-start
     (λ c. c .run-end .ensures .high)  -- part-draw-run-end
     draw-run-requires same-length-2 returns-2 end-row-requires
     (λ c. omega (arith, c .before .before .before .before .if2 .left))  -- add-i
-    loop-less loop-again same-length-3
+    loop-less loop-again
+    (λ c. c .before .loop .inv .easel .long ∙ sym (c .before .before .before .before .before .pre .0 .long))  -- same-length-3
     (λ c. drawn-all (c .before .loop .inv) (c .loop-test .left)))  -- returns-3

@@ -13,25 +13,18 @@ Inv-loop f screen₀ bottom now₀ y₀ screen now y = Finished f (sheet now₀ 
 abbrev μ-loop : tie.MeasureT-loop
 μ-loop f screen₀ bottom now₀ y₀ screen now y = f .r + f .h - y
 
-loop-holds : tie.Need-loop-holds Inv-loop μ-loop
-loop-holds c = finished-none (c .before .before .pre .0) (c .before .before .pre .1)
-
-end-row-requires : tie.Need-end-row-requires Inv-loop μ-loop
-end-row-requires c κs = end-asks (c .before .before .loop .inv) (c .before .loop-test .taken)
-
 loop-again : tie.Need-loop-again Inv-loop μ-loop
 loop-again c =
     let ended = c .before .before in
     finished-line (ended .before .before .before .loop .inv) (ended .before .before .loop-test .taken) (ended .end-row .ensures)
 
-same-length : tie.Need-same-length Inv-loop μ-loop
-same-length c = c .before .loop .inv .easel .long ∙ sym (c .before .before .before .before .pre .0 .long)
-
 pub finish-spec : {M : Type 1} → statement M
 finish-spec = tie.close (tie.spec Inv-loop μ-loop
     (λ c. omega arith)  -- add-bottom
-    loop-holds end-row-requires
+    (λ c. finished-none (c .before .before .pre .0) (c .before .before .pre .1))  -- loop-holds
+    (λ c κs. end-asks (c .before .before .loop .inv) (c .before .loop-test .taken))  -- end-row-requires
     (λ c. omega arith)  -- add-y
     (λ c. omega arith)  -- loop-less
-    loop-again same-length
+    loop-again
+    (λ c. c .before .loop .inv .easel .long ∙ sym (c .before .before .before .before .pre .0 .long))  -- same-length
     (λ c. finished-all (c .before .loop .inv) (c .loop-test .left)))  -- returns

@@ -11,17 +11,8 @@ Inv-loop t k left₀ end₀ left end = Back t k left end
 abbrev μ-loop : tie.MeasureT-loop
 μ-loop t k left₀ end₀ left end = left
 
-sub-end : tie.Need-sub-end Inv-loop μ-loop
-sub-end c = back-inside (c .before .before .before .loop .inv) (c .since-newline .ensures)
-
-sub-end-2 : tie.Need-sub-end-2 Inv-loop μ-loop
-sub-end-2 c = back-room (c .before .before .before .loop .inv) (c .since-newline .ensures)
-
 loop-again : tie.Need-loop-again Inv-loop μ-loop
 loop-again c = back-more (c .before .before .before .loop .inv) (c .since-newline .ensures) (c .before .before .loop-test .taken)
-
-sub-result : tie.Need-sub-result Inv-loop μ-loop
-sub-result c = back-inside (c .before .before .before .loop .inv) (c .since-newline2 .ensures)
 
 returns : tie.Need-returns Inv-loop μ-loop
 returns c = back-all (c .before .before .before .loop .inv) (c .since-newline2 .ensures) (c .before .before .loop-test .left)
@@ -31,10 +22,12 @@ line-start-spec = tie.close (tie.spec Inv-loop μ-loop
     (λ c. back-start (c .before .pre))  -- loop-holds
     (λ c. simp length-take (omega arith))  -- slice-aggregate-since-newline
     (λ c κs. simp length-take (omega arith))  -- since-newline-requires
-    sub-end sub-end-2
+    (λ c. back-inside (c .before .before .before .loop .inv) (c .since-newline .ensures))  -- sub-end
+    (λ c. back-room (c .before .before .before .loop .inv) (c .since-newline .ensures))  -- sub-end-2
     (λ c. omega arith)  -- sub-left
     (λ c. omega arith)  -- loop-less
     loop-again
     (λ c. simp length-take (omega arith))  -- slice-aggregate-since-newline-2
     (λ c κs. simp length-take (omega arith))  -- since-newline-requires-2
-    sub-result returns)
+    (λ c. back-inside (c .before .before .before .loop .inv) (c .since-newline2 .ensures))  -- sub-result
+    returns)

@@ -9,16 +9,10 @@ use Rattle.window.proofs.Laws.Pieces.{piece-above, FirstLine, piece-lin
 use Rattle.window.proofs.painter.paint_piece.Statement.{statement}
 use Rattle.window.proofs.painter.paint_piece.Tie as tie
 
-draw-requires : tie.Need-draw-requires
-draw-requires c κs = (c .before .before .before .before .pre, le-ltb _ _ (c .before .if1 .taken))
-
 add-below : tie.Need-add-below
 add-below c =
     let start = c .before .before .before .before in
     omega (arith, c .count-newlines .ensures, newlines-fit (start .args .t .now), start .pre .pen)
-
-since-newline-requires : tie.Need-since-newline-requires
-since-newline-requires c κs = omega (arith, c .before .before .before .before .before .pre .pen)
 
 returns-2 : tie.Need-returns-2
 returns-2 c =
@@ -47,11 +41,14 @@ returns-3 : tie.Need-returns-3
 returns-3 c = c .before .before .draw2 .ensures ∙ piece-painted (starts (c .before .before .before .before .before))
 
 pub paint-piece-spec : {M : Type 1} → statement M
-paint-piece-spec = tie.close (tie.spec draw-requires
+paint-piece-spec = tie.close (tie.spec
+    (λ c κs. (c .before .before .before .before .pre, le-ltb _ _ (c .before .if1 .taken)))  -- draw-requires
     (λ c. search needs)  -- same-length
     (λ c. c .before .before .draw .ensures)  -- returns
     (λ c κs. search needs)  -- count-newlines-requires
-    add-below since-newline-requires returns-2 line-start-requires
+    add-below
+    (λ c κs. omega (arith, c .before .before .before .before .before .pre .pen))  -- since-newline-requires
+    returns-2 line-start-requires
     (λ c. c .line-start .ensures .within)  -- sub-draw
     (λ c. c .line-start .ensures .within)  -- part-draw-start
     (λ c. search needs)  -- part-draw-end

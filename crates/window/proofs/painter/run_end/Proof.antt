@@ -15,19 +15,13 @@ Inv-loop t i e₀ e = Unbroken t i e
 abbrev μ-loop : tie.MeasureT-loop
 μ-loop t i e₀ e = length t - e
 
-returns : tie.Need-returns Inv-loop μ-loop
-returns c = run-ends (c .before .before .before .loop .inv) (λ _. c .if1 .taken)
-
-loop-again : tie.Need-loop-again Inv-loop μ-loop
-loop-again c = unbroken-both (c .before .before .before .loop .inv) (unbroken-byte (omega arith) (omega arith) (c .if1 .left))
-
 pub run-end-spec : {M : Type 1} → statement M
 run-end-spec = tie.close (tie.spec Inv-loop μ-loop
     (λ c κs. search needs)  -- front-without-requires
     (λ c. c .front-without .ensures)  -- loop-holds
     (λ c. omega arith)  -- shared-slice-read-if1
-    returns
+    (λ c. run-ends (c .before .before .before .loop .inv) (λ _. c .if1 .taken))  -- returns
     (λ c. omega arith)  -- add-e
     (λ c. omega arith)  -- loop-less
-    loop-again
+    (λ c. unbroken-both (c .before .before .before .loop .inv) (unbroken-byte (omega arith) (omega arith) (c .if1 .left)))  -- loop-again
     (λ c. run-ends (c .before .loop .inv) (λ h. absurd (omega arith))))  -- returns-2

@@ -10,9 +10,6 @@ use Rattle.window.proofs.Laws.SendCall.{not-sendable, sendable-so}
 use Rattle.window.proofs.sender.is_sendable.Statement.{statement}
 use Rattle.window.proofs.sender.is_sendable.Tie as tie
 
-returns : tie.Need-returns
-returns c = not-sendable _ _ _ _ _ _ _ (sym (c .before .rows-and-columns .ensures) ∙ not-true _ (c .if1 .taken))
-
 -- H and W have passed their test.
 small : (c : tie.Else1) → rowsAndColumns (c .before .before .before .args .h) (c .before .before .before .args .w) ≡ true
 small c = sym (c .before .rows-and-columns .ensures) ∙ not-false _ (c .if1 .left)
@@ -28,7 +25,8 @@ returns-2 c = sendable-so _ _ _ _ _ _ _ (small (c .before .before)) (c .before .
 pub is-sendable-spec : {M : Type 1} → statement M
 is-sendable-spec = tie.close (tie.spec
     (λ c κs. search needs)  -- rows-and-columns-requires
-    returns mul-result
+    (λ c. not-sendable _ _ _ _ _ _ _ (sym (c .before .rows-and-columns .ensures) ∙ not-true _ (c .if1 .taken)))  -- returns
+    mul-result
     (λ c κs. search needs)  -- rows-on-requires
     (λ c κs. search needs)  -- cursor-on-requires
     returns-2)

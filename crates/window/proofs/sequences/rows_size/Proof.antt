@@ -46,9 +46,6 @@ add-size-2 c =
     (counted .row-count .ensures) (turn .loop .i) (turn .loop .inv .0) (start .pre .2)
     in record { fits = omega (arith, spot-is-small c, so-far, turn .loop .inv .1) }
 
-loop-again : tie.Need-loop-again Inv-loop μ-loop
-loop-again c = (omega arith, size-more _ _ _ (c .before .before .loop .inv .1) (c .spot-size .ensures))
-
 returns : tie.Need-returns Inv-loop μ-loop
 returns c =
     let turn = c .before in
@@ -63,4 +60,5 @@ rows-size-spec = tie.close (tie.spec Inv-loop μ-loop
     add-size add-size-2
     (λ c. search needs)  -- add-i
     (λ c. omega arith)  -- loop-less
-    loop-again returns)
+    (λ c. (omega arith, size-more _ _ _ (c .before .before .loop .inv .1) (c .spot-size .ensures)))  -- loop-again
+    returns)

@@ -6,9 +6,6 @@ use Rattle.window.proofs.Laws.Sequences.{length-spot}
 use Rattle.window.proofs.sequences.spot_size.Statement.{statement}
 use Rattle.window.proofs.sequences.spot_size.Tie as tie
 
-add-result : tie.Need-add-result
-add-result c = record { fits = omega (arith, decimal-short (c .before .args .row) (search needs)) }
-
 add-result-2 : tie.Need-add-result-2
 add-result-2 c =
     let start = c .before .before in
@@ -22,6 +19,6 @@ returns c =
 pub spot-size-spec : {M : Type 1} → statement M
 spot-size-spec = tie.close (tie.spec
     (λ c κs. search needs)  -- decimal-size-requires
-    add-result
+    (λ c. record { fits = omega (arith, decimal-short (c .before .args .row) (search needs)) })  -- add-result
     (λ c κs. search needs)  -- decimal-size-requires-2
     add-result-2 returns)
