@@ -2,6 +2,7 @@ pub mod Edges
 pub mod Displays
 pub mod NamedRows
 pub mod Refusals
+pub mod Sizes
 pub mod Sessions
 pub mod DemandThree
 pub mod Sending
@@ -9,3 +10,4 @@ pub mod SendSamples
 pub mod Line
 pub mod OneOutcome
 pub mod Promises
+pub mod Pins
