@@ -9,3 +9,6 @@ pub mod SendSamples
 pub mod Line
 pub mod OneOutcome
 pub mod Promises
+pub mod OverAndBack
+pub mod Boundary
+pub mod HostTerminal
