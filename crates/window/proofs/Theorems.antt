@@ -6,6 +6,7 @@ pub mod Sessions
 pub mod DemandThree
 pub mod Sending
 pub mod SendSamples
+pub mod HostNumbers
 pub mod Line
 pub mod OneOutcome
 pub mod Promises

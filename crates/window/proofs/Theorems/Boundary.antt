@@ -2,8 +2,8 @@
 use mathlib.Core.Path.{_≡_, refl, sym, ap, ap₂, subst⁻¹, _∙_}
 use mathlib.Core.Logic.{_↔_, ⊎-elim}
 use mathlib.Core.Bool.{Bool, true, false, not, _&&_, cond}
-use mathlib.Core.List.{List, [], _∷_, map}
-use Prim.Native.Nat.{ℕ, _≤_}
+use mathlib.Core.List.{List, [], _∷_}
+use Prim.Native.Nat.{ℕ}
 use native.Mathlib.Omega.{arith}
 use lib.Dec.{leb}
 use lib.ListN.{take, getD}
@@ -15,21 +15,23 @@ use Rattle.gap.proofs.Laws.Tests.{decided, and-left, and-right, and-both, cond-
 use Rattle.gap.proofs.Laws.Nearest.{Least}
 use Rattle.gap.proofs.Laws.Order.{exactly, accepted-exactly}
 use Rattle.editor.specs.Rules.Refusals.{SIZE, LONG, TEXT, SESSION, KEY, FULL}
-use Rattle.editor.specs.Rules.Plain.{Plain, Did, refused, done}
+use Rattle.editor.specs.Rules.Plain.{Plain, opening, quiet, Did, reporting, Outcome, refused, done}
 use Rattle.editor.specs.Rules.Keys.{soundKey, pressed, fits, key, after}
 use Rattle.editor.specs.Rules.Bytes.{quarter}
-use Rattle.window.specs.Words.{Session}
 use Rattle.window.specs.declared.host.Record.{Record}
 use Rattle.window.specs.Rules.Window.{virtual, policy}
-use Rattle.window.specs.Rules.Core.{Lent, Called, T, tabled, isSession, held, finished, shown, opened, keyed}
+use Rattle.window.specs.Rules.Core.{Lent, Called, T, tabled, isSession, held, start, openedText, finished, shown, keyed}
 use Rattle.window.specs.Rules.Rows.{Shortest}
-use Rattle.window.specs.Rules.Refusals.{openingChecks, keyChecks, hostKeyChecks}
-use Rattle.window.specs.Rules.Host.{sessionFrom, recordFrom, isHostSession, keyFrom, KeyNumbers, keyOf, names}
-use Rattle.window.specs.Rules.Host.{Given, givenOf, hostOpened, hostUnopened, hostKeyed, hostPressed, hostTurnedDown, noMode}
+use Rattle.window.specs.Rules.Refusals.{openingChecks, hostKeyChecks}
+use Rattle.window.specs.Rules.Terminal.{openingView, picture}
+use Rattle.window.specs.Rules.Host.{sessionFrom, isHostSession, hostHeld, KeyNumbers, keyOf, names, givenOf}
+use Rattle.window.specs.Rules.Host.{hostOpened, hostUnopened, hostKeyed, hostPressed, hostTurnedDown, noMode}
 use Rattle.window.specs.Wording.Promise.{Follows, HostFollows, HostTold}
+use Rattle.window.proofs.Laws.Window.{length-window}
+use Rattle.window.proofs.Laws.Views.{view-held, view-tabled, view-session}
 use Rattle.window.proofs.Theorems.Refusals.{opening-code, opening-size, opening-long, opening-text, opening-accepted, opening-leaves}
-use Rattle.window.proofs.Theorems.Refusals.{opening-place, opening-no-place, key-code, key-leaves}
-use Rattle.window.proofs.Theorems.Sessions.{session-keyed, key-follows}
+use Rattle.window.proofs.Theorems.Refusals.{opening-done, opening-place, opening-no-place, key-code, key-leaves}
+use Rattle.window.proofs.Theorems.Sessions.{opening-view, session-keyed, key-follows}
 use Rattle.window.proofs.Theorems.DemandThree.{key-names}
 use Rattle.window.proofs.Theorems.OverAndBack.{session-over, record-over, mode-low, unnamed}
 
@@ -124,7 +126,7 @@ module _ (n : Record) (x : KeyNumbers) (b : Lent) where
   pub host-key-full : (hostPressed n x b .said .code ≡ FULL)
       ↔ (Passing
       (check SIZE (tabled (n .rows) (n .columns) b) ∷ check SESSION (isHostSession n (b .stores)) ∷ check KEY (names x && soundKey (keyOf x)) ∷ [])
-      × (fits (T (b .stores)) quarter (pressed (keyOf x) (held (sessionFrom n) (b .stores)) .state) ≡ false))
+      × (fits (T (b .stores)) quarter (pressed (keyOf x) (hostHeld n (b .stores)) .state) ≡ false))
   host-key-full = rw host-key-code (exactly (check SIZE _ ∷ check SESSION _ ∷ check KEY _ ∷ []) FULL _ _ refl refl)
 
   pub host-key-accepted : (hostPressed n x b .said .code ≡ 0) ↔ Passing (hostKeyChecks n x b)
@@ -150,7 +152,7 @@ module _ (n : Record) (x : KeyNumbers) (b : Lent) where
       let code = host-key-key .1 ((fit, (ok, tt)), ap (λ t. t && soundKey (keyOf x)) none) in
       host-key-leaves (λ e. absurd (omega (arith, code, e))) ∙ ap (hostTurnedDown n b) code
 
--- ---- Demand 2: on a session the key in numbers is the plain editor's
+-- ---- Demand 2: record and stores hold what the plain editor says, and the answer is its report
 
 -- What follows from a call of the core follows in numbers.
 given-follows : (o : Called) (p : Plain) → Follows o p → HostFollows (givenOf o) p
@@ -163,45 +165,71 @@ given-follows o p follows =
       holds = ap (λ s. held s (o .lent .stores)) (session-over (o .session)) ∙ follows .holds;
     }
 
+module _ (n H W : ℕ) (b : Lent) (accepts : hostOpened n H W b .said .code ≡ 0) where
+  opened-core : hostOpened n H W b ≡ givenOf (openedText n H W b)
+  unfolding hostOpened
+  opened-core = ap givenOf (opening-done n H W b accepts)
+
+  -- An accepted opening gives a session that holds the text, with the cursor at its beginning.
+  pub host-opening-follows : HostFollows (hostOpened n H W b) (opening (take n (b .stores .text)))
+  unfolding hostOpened openedText
+  host-opening-follows =
+      let v = openingView n H W b in
+      let good = opening-view n H W b accepts in
+      let long = length-window (v .frame) (virtual (v .plain)) in
+      subst⁻¹ (λ g. HostFollows g (v .plain)) opened-core
+      (given-follows (openedText n H W b) (v .plain)
+      (record {
+        fit = view-tabled (T (b .stores)) v good (picture v) long;
+        session = view-session (T (b .stores)) v good (picture v) long;
+        holds = view-held (T (b .stores)) v good (picture v) long;
+      }))
+
+  -- Its answer is quiet, and the window starts at the document's beginning.
+  pub host-opening-told : HostTold (hostOpened n H W b) (reporting quiet (opening (take n (b .stores .text)))) (start H W)
+  unfolding openedText
+  host-opening-told =
+      subst⁻¹ (λ g. HostTold g (reporting quiet (opening (take n (b .stores .text)))) (start H W)) opened-core
+      (record { code = refl; place = refl; steps = refl; bell = refl; row = refl; column = refl; frame = refl; screen = refl })
+
+-- On a session the key in numbers is the plain editor's.
 module _ (n : Record) (x : KeyNumbers) (b : Lent) (fit : tabled (n .rows) (n .columns) b ≡ true) (ok : isHostSession n (b .stores) ≡ true) where
-  abbrev before : Plain
-  before = held (sessionFrom n) (b .stores)
-
-  abbrev session : Session
-  session = sessionFrom n
-
-  in-core : hostPressed n x b ≡ givenOf (keyed (sessionFrom n) (keyOf x) b)
-  in-core = in-mode n x b (and-left (leb (n .mode) 1) (isSession (sessionFrom n) (b .stores)) ok)
+  low : leb (n .mode) 1 ≡ true
+  low = and-left (leb (n .mode) 1) (isSession (sessionFrom n) (b .stores)) ok
 
   core-ok : isSession (sessionFrom n) (b .stores) ≡ true
   core-ok = and-right (leb (n .mode) 1) (isSession (sessionFrom n) (b .stores)) ok
 
+  in-core : (o : Outcome) → key (T (b .stores)) quarter (keyOf x) (hostHeld n (b .stores)) ≡ o
+      → hostPressed n x b ≡ givenOf (finished (sessionFrom n) b o)
+  in-core o e =
+      in-mode n x b low ∙ ap givenOf (session-keyed (sessionFrom n) (keyOf x) b fit core-ok ∙ ap (finished (sessionFrom n) b) e)
+
   -- Every key, accepted or refused, leads to a session, which holds what the plain editor says.
-  pub host-key-follows : HostFollows (hostPressed n x b) (after before (key (T (b .stores)) quarter (keyOf x) before))
+  pub host-key-follows : HostFollows (hostPressed n x b)
+      (after (hostHeld n (b .stores)) (key (T (b .stores)) quarter (keyOf x) (hostHeld n (b .stores))))
   host-key-follows =
-      subst⁻¹ (λ g. HostFollows g (after before (key (T (b .stores)) quarter (keyOf x) before))) in-core
-      (given-follows _ _ (key-follows (sessionFrom n) (keyOf x) b fit core-ok))
+      subst⁻¹ (λ g. HostFollows g (after (hostHeld n (b .stores)) (key (T (b .stores)) quarter (keyOf x) (hostHeld n (b .stores)))))
+      (in-mode n x b low) (given-follows _ _ (key-follows (sessionFrom n) (keyOf x) b fit core-ok))
 
   -- A key that the plain editor does is told as it did it: steps, bell, and the cursor in the window that the policy gives.
-  pub host-key-told : (did : Did Plain) → key (T (b .stores)) quarter (keyOf x) before ≡ done did
+  pub host-key-told : (did : Did Plain) → key (T (b .stores)) quarter (keyOf x) (hostHeld n (b .stores)) ≡ done did
       → HostTold (hostPressed n x b) did (policy (sessionFrom n .frame) (virtual (did .state)))
   unfolding finished shown
   host-key-told did e =
-      subst⁻¹ (λ g. HostTold g did (policy (sessionFrom n .frame) (virtual (did .state))))
-      (in-core ∙ ap givenOf (session-keyed (sessionFrom n) (keyOf x) b fit core-ok ∙ ap (finished (sessionFrom n) b) e))
+      subst⁻¹ (λ g. HostTold g did (policy (sessionFrom n .frame) (virtual (did .state)))) (in-core (done did) e)
       (record { code = refl; place = refl; steps = refl; bell = refl; row = refl; column = refl; frame = refl; screen = refl })
 
-  -- One that it refuses is refused with the same number.
-  pub host-key-refused : (code : ℕ) → key (T (b .stores)) quarter (keyOf x) before ≡ refused code
-      → hostPressed n x b .said .code ≡ code
+  -- One that the plain editor refuses is refused with the same number.
+  pub host-key-refused : (code : ℕ) → key (T (b .stores)) quarter (keyOf x) (hostHeld n (b .stores)) ≡ refused code
+      → hostPressed n x b ≡ hostTurnedDown n b code
   unfolding finished
   host-key-refused code e =
-      ap (λ g. g .said .code)
-      (in-core ∙ ap givenOf (session-keyed (sessionFrom n) (keyOf x) b fit core-ok ∙ ap (finished (sessionFrom n) b) e))
+      in-core (refused code) e ∙ ap (λ m. hostTurnedDown m b code) (record-over n .1 (leb-true (n .mode) 1 low))
 
   -- The named rows are the shortest run that covers every row in which the lent screen changed.
   pub host-rows-named :
       Shortest (n .rows) (n .columns) (b .screen) (hostPressed n x b .lent .screen) (hostPressed n x b .said .first) (hostPressed n x b .said .last)
   host-rows-named =
-      subst⁻¹ (λ g. Shortest (n .rows) (n .columns) (b .screen) (g .lent .screen) (g .said .first) (g .said .last)) in-core
+      subst⁻¹ (λ g. Shortest (n .rows) (n .columns) (b .screen) (g .lent .screen) (g .said .first) (g .said .last)) (in-mode n x b low)
       (key-names (sessionFrom n) (keyOf x) b fit core-ok)

@@ -1,7 +1,6 @@
 -- Demand 3 at the host's boundary: opening and any list of keys in numbers, record and stores handed on as they came back.
 use mathlib.Core.Path.{_≡_, refl, sym, ap, _∙_}
 use mathlib.Core.Logic.{⊎-elim}
-use mathlib.Core.Bool.{true, false}
 use mathlib.Core.List.{List, [], _∷_, map}
 use Prim.Native.Nat.{ℕ}
 use lib.ListN.{take}
@@ -12,9 +11,9 @@ use Rattle.editor.specs.Rules.Plain.{Plain, opening, refused}
 use Rattle.editor.specs.Rules.Keys.{soundKey, key, keys}
 use Rattle.editor.specs.Rules.Bytes.{quarter}
 use Rattle.window.specs.Words.{Session}
-use Rattle.window.specs.Rules.Core.{Lent, Called, T, opened, keyed}
-use Rattle.window.specs.Rules.Terminal.{Bench, View, openingView, openedBench, given, struck, typed, looked, viewed, picture}
-use Rattle.window.specs.Rules.Machine.{Machine, Line, bytesAfter, received, openedLine, struckLine, typedLine, showing, Ready}
+use Rattle.window.specs.Rules.Core.{Lent, T, keyed}
+use Rattle.window.specs.Rules.Terminal.{Bench, View, openingView, openedBench, struck, typed, looked, viewed, picture}
+use Rattle.window.specs.Rules.Machine.{Machine, Line, openedLine, struckLine, typedLine, showing, Ready}
 use Rattle.window.specs.Rules.Host.{recordFrom, none, KeyNumbers, keyOf, names, givenOf, hostOpened, hostPressed}
 use Rattle.window.specs.Rules.HostRun.{keysNamed, HostBench, hostOpenedBench, hostShown, hostStruck, hostTyped}
 use Rattle.window.specs.Rules.HostRun.{HostLine, hostBytes, hostReceived, hostOpenedLine, hostStruckLine, hostTypedLine}

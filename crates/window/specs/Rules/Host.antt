@@ -3,13 +3,14 @@ use Rattle.window.specs.Words.{Bool, true, _&&_, _||_, cond, ℕ, eqb, l
 use Rattle.window.specs.Words.{Place, Character, Word, LineBeginning, LineEnding, Document, Session, Answer}
 use Rattle.window.specs.Words.{Key, Insert, Function, Recall, Quote, Find, Replace}
 use Rattle.editor.specs.Rules.Refusals.{SIZE, SESSION}
+use Rattle.editor.specs.Rules.Plain.{Plain}
 use Rattle.editor.specs.Rules.Bytes.{Stores}
 use Rattle.gap.specs.Rules.Numbers.{bit}
 use Rattle.window.specs.declared.Reply.{Reply}
 use Rattle.window.specs.declared.host.Record.{Record}
 use Rattle.window.specs.declared.host.Said.{Said}
 use Rattle.window.specs.declared.host.HostReply.{HostReply}
-use Rattle.window.specs.Rules.Core.{Lent, Called, refusal, tabled, isSession, opened, keyed}
+use Rattle.window.specs.Rules.Core.{Lent, Called, refusal, tabled, isSession, held, opened, keyed}
 
 -- ---- The record
 
@@ -58,9 +59,12 @@ recordFrom s =
       columns = s .frame .w;
     }
 
--- Record and stores are a session: the mode is one, and the core's record is a session.
+-- Record and stores are a session: the mode is one, and the core's record is a session. What they hold is what it holds.
 abbrev pub isHostSession : Record → Stores → Bool
 isHostSession n b = leb (n .mode) 1 && isSession (sessionFrom n) b
+
+abbrev pub hostHeld : Record → Stores → Plain
+hostHeld n b = held (sessionFrom n) b
 
 -- ---- Keys
 

@@ -10,7 +10,7 @@ use Rattle.window.specs.declared.host.Record.{Record}
 use Rattle.window.specs.Rules.Core.{Lent, T, tabled, isSession, held}
 use Rattle.window.specs.Rules.Sequences.{sentScreen}
 use Rattle.window.specs.Rules.Sending.{sendable}
-use Rattle.window.specs.Rules.Host.{sessionFrom, isHostSession, KeyNumbers, keyOf, names}
+use Rattle.window.specs.Rules.Host.{isHostSession, hostHeld, KeyNumbers, keyOf, names}
 
 -- The checks of opening, in order.
 abbrev pub openingChecks : ℕ → ℕ → ℕ → Lent → List Check
@@ -31,7 +31,7 @@ hostKeyChecks n x b =
     check SIZE (tabled (n .rows) (n .columns) b)
     ∷ check SESSION (isHostSession n (b .stores))
     ∷ check KEY (names x && soundKey (keyOf x))
-    ∷ finishedChecks (T (b .stores)) quarter (pressed (keyOf x) (held (sessionFrom n) (b .stores)) .state)
+    ∷ finishedChecks (T (b .stores)) quarter (pressed (keyOf x) (hostHeld n (b .stores)) .state)
 
 -- The checks of the routine for terminals, in order.
 abbrev pub sendChecks : ℕ → ℕ → ℕ → ℕ → ℕ → ℕ → List ℕ → List ℕ → List Check

@@ -10,7 +10,7 @@ use Rattle.window.specs.Rules.Core.{Lent, Called, tabled, isSession, hel
 use Rattle.window.specs.Rules.Terminal.{Bench, given}
 use Rattle.window.specs.Rules.Sending.{SendOutcome, sending}
 use Rattle.window.specs.Rules.Machine.{Line, received}
-use Rattle.window.specs.Rules.Host.{sessionFrom, isHostSession, Given, hostOpened, hostKeyed}
+use Rattle.window.specs.Rules.Host.{sessionFrom, isHostSession, hostHeld, Given, hostOpened, hostKeyed}
 
 abbrev pub OpenPromise : ℕ → ℕ → ℕ → Lent → Called → Type 0
 OpenPromise n H W b o = o ≡ opened n H W b
@@ -46,9 +46,9 @@ pub record Follows (o : Called) (p : Plain) : Type 0 where
 pub record HostFollows (g : Given) (p : Plain) : Type 0 where
   pub fit : tabled (g .back .rows) (g .back .columns) (g .lent) ≡ true
   pub session : isHostSession (g .back) (g .lent .stores) ≡ true
-  pub holds : held (sessionFrom (g .back)) (g .lent .stores) ≡ p
+  pub holds : hostHeld (g .back) (g .lent .stores) ≡ p
 
--- What an accepted key tells a host: what the plain editor did, seen through the window f.
+-- What an accepted call tells a host: what the plain editor did, seen through the window f.
 pub record HostTold (g : Given) (did : Did Plain) (f : Frame) : Type 0 where
   pub code : g .said .code ≡ 0
   pub place : g .said .place ≡ 0
