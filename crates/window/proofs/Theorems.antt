@@ -7,7 +7,11 @@ pub mod Sessions
 pub mod DemandThree
 pub mod Sending
 pub mod SendSamples
+pub mod HostNumbers
 pub mod Line
 pub mod OneOutcome
 pub mod Promises
 pub mod Pins
+pub mod OverAndBack
+pub mod Boundary
+pub mod HostTerminal

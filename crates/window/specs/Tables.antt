@@ -4,3 +4,4 @@ pub mod WindowPins
 pub mod CallPins
 pub mod TerminalPins
 pub mod SendSamples
+pub mod HostNumbers
