@@ -6,6 +6,9 @@ pub mod Sessions
 pub mod DemandThree
 pub mod Sending
 pub mod SendSamples
+pub mod KeyDoes
+pub mod Steps
+pub mod AfterCalls
 pub mod Line
 pub mod OneOutcome
 pub mod Promises
