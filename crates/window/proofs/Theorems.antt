@@ -8,6 +8,9 @@ pub mod DemandThree
 pub mod Sending
 pub mod SendSamples
 pub mod HostNumbers
+pub mod KeyDoes
+pub mod Steps
+pub mod AfterCalls
 pub mod Line
 pub mod OneOutcome
 pub mod Promises

@@ -2,4 +2,5 @@
 pub mod Painter
 pub mod Calls
 pub mod Promise
+pub mod Demands
 pub mod Writing

@@ -1,5 +1,8 @@
 -- The host's boundary: record, key and answer as numbers. (DECISIONS D1 to D4.)
-use Rattle.window.specs.Words.{_&&_, cond, ℕ, eqb, leb, Left, Right, Direction, Action, Move, Delete, Mode, Main, Quoted, Place, Character, Word, LineBeginning, LineEnding, Document, Session, Answer, Key, Insert, Function, Recall, Quote, Find, Replace, Bool, true, _||_}
+use Rattle.window.specs.Words.{Bool, true, _&&_, _||_, cond, ℕ, eqb, leb}
+use Rattle.window.specs.Words.{Left, Right, Direction, Action, Move, Delete, Mode, Main, Quoted}
+use Rattle.window.specs.Words.{Place, Character, Word, LineBeginning, LineEnding, Document}
+use Rattle.window.specs.Words.{Session, Answer, Key, Insert, Function, Recall, Quote, Find, Replace}
 use Rattle.editor.specs.Rules.Refusals.{SIZE, SESSION}
 use Rattle.editor.specs.Rules.Plain.{Plain}
 use Rattle.editor.specs.Rules.Bytes.{Stores}
