@@ -15,7 +15,8 @@ use Rattle.editor.specs.Rules.Keys.{soundKey, carried, function, sideOf, onSide
 use Rattle.editor.specs.Rules.Bytes.{quarter}
 use Rattle.editor.proofs.Laws.Sound.{SoundPlain}
 use Rattle.editor.proofs.Laws.States.{side-with}
-use Rattle.editor.proofs.Theorems.Refusals.{Unsound, key-unsound, refused-full, function-never-full, find-never-full}
+use Rattle.editor.specs.Rules.Keys.{Unsound}
+use Rattle.editor.proofs.Theorems.Refusals.{key-unsound, refused-full, function-never-full, find-never-full}
 use Rattle.window.specs.Words.{Direction, Search, Reached, Nowhere, Action, Move, Delete, Place, Mode, Main, Quoted, Key, Function, Find, Report, Session}
 use Rattle.window.specs.Rules.Core.{Lent, Called, T, held, shown, finished, keyed}
 use Rattle.window.specs.Wording.Demands.{OnSession, StepsTo, textIn, patternIn, singly}
