@@ -12,3 +12,4 @@ pub mod AfterCalls
 pub mod Line
 pub mod OneOutcome
 pub mod Promises
+pub mod ShutOut

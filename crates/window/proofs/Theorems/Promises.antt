@@ -143,7 +143,8 @@ module _ (n H W : ℕ) (b : Lent) (o : Called) (promise : OpenPromise n H W b o)
       × (viewed (T (b .stores)) ks (openingView n H W b) .plain ≡ keys (T (b .stores)) quarter ks (opening (take n (b .stores .text))))
   line-sent room long ready ks end run sent =
       let code = ap (λ x. x .code) send ∙ ap (λ x. bytesAfter x buffer .code) promise in
-      let shown = demand-three-sent n H W b (opens n H W b o promise accepts) buffer m long ready (λ e. room (code ∙ e)) ks (subst (AllSent ks) start (run-sent run sent)) in
+      let all-sent = subst (AllSent ks) start (run-sent run sent) in
+      let shown = demand-three-sent n H W b (opens n H W b o promise accepts) buffer m long ready (λ e. room (code ∙ e)) ks all-sent in
       (ap (λ x. x .terminal) (run-line run ∙ ap (typedLine ks) start) ∙ shown .0, shown .1)
 
   -- With a buffer of H (W + 7) + 9 bytes it always is so.

@@ -14,7 +14,7 @@ use Rattle.window.specs.Rules.Window.{virtual, rowOf, columnOf, window, 
 use Rattle.window.specs.Rules.Rows.{Shortest}
 use Rattle.window.specs.Rules.Core.{Lent, Called, T, tabled, isSession, held, turnedDown}
 use Rattle.window.specs.Rules.Terminal.{Bench, given}
-use Rattle.window.specs.Wording.Promise.{BenchRun, at-end, press, LineRun, at-rest, strike}
+use Rattle.window.specs.Wording.Promise.{OpenPromise, KeyPromise, BenchRun, at-end, press, LineRun, at-rest, strike}
 
 -- ---- Demand 2: what a key does
 
@@ -112,3 +112,19 @@ RowsNamed H W (press {at = at} o promise run) = NamesRows H W at o × RowsNamed 
 abbrev pub RunSent : {ks : List Key} {at end : _} → LineRun ks at end → Type 0
 RunSent at-rest = Unit {0}
 RunSent (strike o p key-promise promise run) = (p .code ≢ ROOM) × RunSent run
+
+-- ---- An editor as its answers
+
+-- What an editor answers to a text that is opened, and to a key, on anything it is given.
+abbrev pub Opens : Type 0
+Opens = ℕ → ℕ → ℕ → Lent → Called
+
+abbrev pub Presses : Type 0
+Presses = Session → Key → Lent → Called
+
+-- It keeps the promise of the call.
+abbrev pub OpensWell : Opens → Type 0
+OpensWell opens = (n H W : ℕ) (b : Lent) → OpenPromise n H W b (opens n H W b)
+
+abbrev pub PressesWell : Presses → Type 0
+PressesWell presses = (s : Session) (k : Key) (b : Lent) → KeyPromise s k b (presses s k b)
