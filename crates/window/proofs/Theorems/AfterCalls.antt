@@ -24,7 +24,7 @@ use Rattle.window.specs.Rules.Sequences.{sentColumn, sentScreen}
 use Rattle.window.specs.Rules.Sending.{SendOutcome, rowsOn, sendable, unsent, sending}
 use Rattle.window.specs.Rules.Machine.{Machine, cells, machine, feed, bytesAfter, received, enough}
 use Rattle.window.proofs.Laws.Window.{length-window}
-use Rattle.window.proofs.Laws.Rows.{repainted}
+use Rattle.window.proofs.Laws.Rows.{repainted, repaint-all}
 use Rattle.window.proofs.Laws.Views.{tabled-facts, some-rows, viewOf, session-view, looked-good}
 use Rattle.window.proofs.Laws.SentScreen.{sent-shown}
 use Rattle.window.proofs.Laws.SendCall.{enough-room}
@@ -187,3 +187,28 @@ module _ (n H W : ℕ) (b : Lent) (buffer : List ℕ) where
 
   pub opening-unsent : opened n H W b .answer .code ≢ 0 → bytesAfter (opened n H W b) buffer ≡ unsent SIZE 0 buffer
   opening-unsent bad = ap (λ o. bytesAfter o buffer) (opening-leaves n H W b bad) ∙ off-screen _ _ _ _ _ _ buffer
+
+  opened-accepted : bytesAfter (opened n H W b) buffer .code ≡ 0 → opened n H W b .answer .code ≡ 0
+  opened-accepted sent =
+      ⊎-elim (λ accepts. eqb-true _ _ accepts)
+      (λ refuses. absurd (omega (arith, ap (λ p. p .code) (opening-unsent (eqb-false _ _ refuses)))))
+      (decided (eqb (opened n H W b .answer .code) 0))
+
+  -- Any opening, and any buffer: where the routine answers 0, any terminal of this size shows the screen, with the cursor as reported.
+  pub opening-shown : bytesAfter (opened n H W b) buffer .code ≡ 0 → (m : Machine) → length (m .shows) ≡ H * W → m .reading ≡ cells
+      → let o = opened n H W b in
+      received o (bytesAfter o buffer) m .terminal ≡ machine (o .lent .screen) (o .answer .row) (sentColumn W (o .answer .column))
+  unfolding openedText
+  opening-shown sent m long ready =
+      let accepts = opened-accepted sent in
+      let v = openingView n H W b in
+      let good = opening-view n H W b accepts in
+      let some = some-rows H W (good .tabled) in
+      subst⁻¹
+      (λ o. bytesAfter o buffer .code ≡ 0
+      → received o (bytesAfter o buffer) m .terminal ≡ machine (o .lent .screen) (o .answer .row) (sentColumn W (o .answer .column)))
+      (opening-done n H W b accepts)
+      (λ sent.
+      view-fed (T (b .stores)) v good 1 H (every-on H some) buffer sent m long ready
+      ∙ ap (λ s. machine s (cursorRow v) (sentColumn W (cursorColumn v))) (repaint-all H W (m .shows) (picture v) long (length-window _ _) some))
+      sent

@@ -49,6 +49,7 @@ module _ (s : Session) (k : Key) (b : Lent) where
           holds = leads .holds ∙ ap (after state) key-plain;
           lengths = ap (λ o. o .session .lengths) key-outcome;
           stores = ap (λ o. o .lent .stores) key-outcome;
+          place = ap (λ o. o .answer .place) key-outcome;
           report = ap (λ o. o .answer .report) key-outcome;
           offsets = offsets;
           screen = ap (λ o. o .lent .screen) key-outcome ∙ ap (λ f. window f d) (sym offsets);

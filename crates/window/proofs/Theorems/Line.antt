@@ -18,13 +18,13 @@ use Rattle.window.specs.Rules.Sequences.{sentColumn}
 use Rattle.window.specs.Rules.Machine.{Machine, cells, machine, feed, Line, bytesAfter, received, openedLine, struckLine, typedLine}
 use Rattle.window.specs.Rules.Machine.{AllSent, showing, enough, Ready, OnLine}
 use Rattle.window.proofs.Laws.Window.{length-window}
-use Rattle.window.proofs.Laws.Rows.{repainted, repaint-all}
-use Rattle.window.proofs.Laws.Views.{some-rows, view-keyed, view-size, looked-good}
-use Rattle.window.proofs.Laws.SentViews.{cursorRow, cursorColumn, changed-on, every-on}
+use Rattle.window.proofs.Laws.Rows.{repainted}
+use Rattle.window.proofs.Laws.Views.{view-keyed, view-size, looked-good}
+use Rattle.window.proofs.Laws.SentViews.{cursorRow, cursorColumn, changed-on}
 use Rattle.window.proofs.Theorems.Refusals.{opening-done}
 use Rattle.window.proofs.Theorems.Sessions.{opening-view}
 use Rattle.window.proofs.Theorems.DemandThree.{key-good, viewed-plain}
-use Rattle.window.proofs.Theorems.AfterCalls.{off-screen, view-sent, view-fed, enough-sent, buffer-kept, keyed-size, opening-or-room}
+use Rattle.window.proofs.Theorems.AfterCalls.{off-screen, view-sent, view-fed, enough-sent, buffer-kept, keyed-size, opening-or-room, opening-shown}
 
 -- ---- Keys on a line
 
@@ -82,20 +82,11 @@ module _ (n H W : ℕ) (b : Lent) (accepts : opened n H W b .answer .code ≡ 0)
       → OnLine (T (b .stores)) (openingView n H W b) (openedLine n H W b buffer m)
   unfolding openedLine openedText
   opening-line long ready room =
-      let v = openingView n H W b in
-      let good = opening-view n H W b accepts in
-      let some = some-rows H W (good .tabled) in
-      subst⁻¹ (λ o. bytesAfter o buffer .code ≡ 0 → OnLine (T (b .stores)) v (lineAfter o buffer m)) (opening-done n H W b accepts)
-      (λ sent.
-      record {
-        session = refl;
-        lent = refl;
-        terminal =
-            view-fed (T (b .stores)) v good 1 H (every-on H some) buffer sent m long ready
-            ∙ ap (λ s. machine s (cursorRow v) (sentColumn W (cursorColumn v)))
-            (repaint-all H W (m .shows) (picture v) long (length-window _ _) some);
-      })
-      (opening-or-room n H W b buffer accepts room)
+      let shown = opening-shown n H W b buffer (opening-or-room n H W b buffer accepts room) m long ready in
+      subst⁻¹
+      (λ o. received o (bytesAfter o buffer) m .terminal ≡ machine (o .lent .screen) (o .answer .row) (sentColumn W (o .answer .column))
+      → OnLine (T (b .stores)) (openingView n H W b) (lineAfter o buffer m))
+      (opening-done n H W b accepts) (λ shown. record { session = refl; lent = refl; terminal = shown }) shown
 
   -- The terminal shows the window of the plain document after the same keys, and its cursor; and that document is the plain editor's.
   pub demand-three-sent : length (m .shows) ≡ H * W → m .reading ≡ cells → bytesAfter (opened n H W b) buffer .code ≢ ROOM

@@ -21,13 +21,16 @@ use Rattle.window.specs.Wording.Promise.{BenchRun, at-end, press, LineRu
 use Rattle.window.specs.Wording.Demands.{OnSession, KeyDoes, textIn, patternIn, StepsTo, NamesRows, RowsNamed, RunSent}
 use Rattle.window.specs.Rules.Rows.{Shortest}
 use Rattle.window.specs.Rules.Terminal.{Bench, View, given, openingView, struck, typed, looked, viewed, picture, Good, Showing}
-use Rattle.window.specs.Rules.Machine.{Machine, cells, Line, received, bytesAfter, openedLine, struckLine, typedLine, AllSent, showing, Ready}
+use Rattle.window.specs.Rules.Sequences.{sentColumn}
+use Rattle.window.specs.Rules.Machine.{Machine, cells, machine, Line, received, bytesAfter, openedLine, struckLine, typedLine}
+use Rattle.window.specs.Rules.Machine.{AllSent, showing, Ready}
 use Rattle.window.proofs.Theorems.Refusals.{opening-leaves, key-leaves}
 use Rattle.window.proofs.Theorems.Sessions.{opening-view, key-follows}
 use Rattle.window.proofs.Theorems.DemandThree.{key-good, key-showing, opening-showing, demand-three, key-names, view-names, looked-size}
 use Rattle.window.proofs.Theorems.KeyDoes.{keyed-does}
 use Rattle.window.proofs.Theorems.Steps.{function-steps, find-steps}
 use Rattle.window.proofs.Theorems.Sending.{sending-leaves}
+use Rattle.window.proofs.Theorems.AfterCalls.{key-shown}
 use Rattle.window.proofs.Theorems.Line.{demand-three-sent, demand-three-line}
 
 -- Demand 1: a call that is refused has changed no byte, and hands back the record as document 01 says.
@@ -112,6 +115,17 @@ sending-refused H W first last row column screen buffer p promise bad =
     subst⁻¹ (λ x. (x .code ≡ 0 → ⊥) → x ≡ unsent (x .code) (x .place) buffer) promise
     (sending-leaves H W first last row column screen buffer) bad
 
+-- After a key: where it answers 0, a terminal that showed the screen as it was shows the new one, with the cursor as reported.
+pub sent-shows : (s : Session) (k : Key) (b : Lent) (buffer : List ℕ) (m : Machine) → m .shows ≡ b .screen → m .reading ≡ cells
+    → (o : Called) → KeyPromise s k b o → (p : SendOutcome) → SendAfterPromise o buffer p → p .code ≡ 0
+    → received o p m .terminal ≡ machine (o .lent .screen) (o .answer .row) (sentColumn (s .frame .w) (o .answer .column))
+sent-shows s k b buffer m same ready o promise p send sent =
+    let sent-so : bytesAfter (keyed s k b) buffer .code ≡ 0 = ap (λ x. bytesAfter x buffer .code) (sym promise) ∙ (ap (λ x. x .code) (sym send) ∙ sent) in
+    ap (λ x. received o x m .terminal) send
+    ∙ subst⁻¹
+    (λ x. received x (bytesAfter x buffer) m .terminal ≡ machine (x .lent .screen) (x .answer .row) (sentColumn (s .frame .w) (x .answer .column)))
+    promise (key-shown s k b buffer sent-so m same ready)
+
 -- Demand 3 on a line.
 run-line : {ks : List Key} {at end : Line} → LineRun ks at end → end ≡ typedLine ks at
 unfolding typedLine struckLine
@@ -143,7 +157,8 @@ module _ (n H W : ℕ) (b : Lent) (o : Called) (promise : OpenPromise n H W b o)
       × (viewed (T (b .stores)) ks (openingView n H W b) .plain ≡ keys (T (b .stores)) quarter ks (opening (take n (b .stores .text))))
   line-sent room long ready ks end run sent =
       let code = ap (λ x. x .code) send ∙ ap (λ x. bytesAfter x buffer .code) promise in
-      let shown = demand-three-sent n H W b (opens n H W b o promise accepts) buffer m long ready (λ e. room (code ∙ e)) ks (subst (AllSent ks) start (run-sent run sent)) in
+      let all-sent = subst (AllSent ks) start (run-sent run sent) in
+      let shown = demand-three-sent n H W b (opens n H W b o promise accepts) buffer m long ready (λ e. room (code ∙ e)) ks all-sent in
       (ap (λ x. x .terminal) (run-line run ∙ ap (typedLine ks) start) ∙ shown .0, shown .1)
 
   -- With a buffer of H (W + 7) + 9 bytes it always is so.

@@ -1,96 +1,32 @@
--- Steps and bell are the distance, on every session: of moves and deletions, in MAIN and in QUOTED, and of FIND and UPFIND. (01, plain
--- editor: distance, search.)
+-- Steps and bell on every session: of moves and deletions, in MAIN and in QUOTED, the distance to the place; of FIND and UPFIND the
+-- distance to the nearest match. (01, plain editor: distance, search.)
 use mathlib.Core.Path.{_≡_, refl, sym, ap, ap₂, _∙_}
-use mathlib.Core.Logic.{_↔_}
-use mathlib.Core.Bool.{Bool, false≢true}
+use mathlib.Core.Bool.{cond}
 use Prim.Native.Nat.{ℕ}
-use Rattle.gap.specs.Rules.Doc.{Doc, move, times}
+use Rattle.gap.specs.Rules.Doc.{move, times}
 use Rattle.gap.specs.Rules.Nearest.{distance}
 use Rattle.gap.proofs.Laws.Tests.{clash}
-use Rattle.gap.proofs.Theorems.Distance.{distance-least, distance-nowhere}
 use Rattle.editor.specs.Rules.Refusals.{FULL}
 use Rattle.editor.specs.Rules.Places.{isAt}
-use Rattle.editor.specs.Rules.Plain.{Side, Plain, rang, went, refused}
-use Rattle.editor.specs.Rules.Keys.{soundKey, carried, function, sideOf, onSide, withPattern, matches, searched, found, pressed, key, after}
+use Rattle.editor.specs.Rules.Plain.{Plain, quiet, rang, refused}
+use Rattle.editor.specs.Rules.Keys.{soundKey, inserted, function, recalled, sideOf, onSide, quoted, withPattern, matches, searched, found}
+use Rattle.editor.specs.Rules.Keys.{replaced, pressed, key, after}
 use Rattle.editor.specs.Rules.Bytes.{quarter}
 use Rattle.editor.proofs.Laws.Sound.{SoundPlain}
 use Rattle.editor.proofs.Laws.States.{side-with}
 use Rattle.editor.specs.Rules.Keys.{Unsound}
 use Rattle.editor.proofs.Theorems.Refusals.{key-unsound, refused-full, function-never-full, find-never-full}
-use Rattle.window.specs.Words.{Direction, Search, Reached, Nowhere, Action, Move, Delete, Place, Mode, Main, Quoted, Key, Function, Find, Report, Session}
-use Rattle.window.specs.Rules.Core.{Lent, Called, T, held, shown, finished, keyed}
+use Rattle.window.specs.Words.{Direction, Action, Move, Place, Session, Key, Insert, Function, Recall, Quote, Find, Replace}
+use Rattle.window.specs.Rules.Core.{Lent, T, held, shown, finished, keyed}
 use Rattle.window.specs.Wording.Demands.{OnSession, StepsTo, textIn, patternIn, singly}
 use Rattle.window.proofs.Laws.Views.{session-view}
-use Rattle.window.proofs.Theorems.KeyDoes.{key-plain, key-outcome, keyed-does}
+use Rattle.window.proofs.Laws.Reports.{side-text, same-document, sought, replaced-told, told, carried-told, told-steps, carried-text}
 use Rattle.window.proofs.Theorems.Sessions.{key-follows}
-
-side-text : (mode : Mode) (p : Plain) → sideOf mode p .text ≡ textIn mode p
-side-text Main p = refl
-side-text Quoted p = refl
-
--- A search is in the document, for the pattern that the mode says.
-same-document : (mode : Mode) (p : Plain) → withPattern mode p .main ≡ p .main
-unfolding withPattern
-same-document Main p = refl
-same-document Quoted p = refl
-
-sought : (mode : Mode) (p : Plain) → withPattern mode p .pattern ≡ patternIn mode p
-unfolding withPattern
-sought Main p = refl
-sought Quoted p = refl
+use Rattle.window.proofs.Theorems.KeyDoes.{key-plain, key-outcome, keyed-does}
 
 find-sound : (way : Direction) → ¬ Unsound (Find way)
 unfolding soundKey
 find-sound way bad = clash refl (key-unsound (Find way) .1 bad)
-
--- ---- What a search makes a key report
-
-told : Search → Report
-told (Reached n) = went n
-told Nowhere = rang
-
-told-went : (found : Search) (n : ℕ) → (told found ≡ went n) ↔ (found ≡ Reached n)
-unfolding told
-told-went (Reached m) n = (λ e. ap (λ report. Reached (report .steps)) e, λ e. ap told e)
-told-went Nowhere n = (λ e. absurd (false≢true (sym (ap (λ report. report .bell) e))), λ e. ap told e)
-
-told-rang : (found : Search) → (told found ≡ rang) ↔ (found ≡ Nowhere)
-unfolding told
-told-rang (Reached m) = (λ e. absurd (false≢true (ap (λ report. report .bell) e)), λ e. ap told e)
-told-rang Nowhere = (λ e. refl, λ e. refl)
-
-carried-told : (action : Action) (way : Direction) (found : Search) (s : Side) → carried action way found s .report ≡ told found
-unfolding carried told
-carried-told Move way (Reached n) s = refl
-carried-told Move way Nowhere s = refl
-carried-told Delete way (Reached n) s = refl
-carried-told Delete way Nowhere s = refl
-
--- An accepted call that reports so has the distance as its steps.
-told-steps : (way : Direction) (place : Doc → Bool) (d : Doc) (o : Called) → o .answer .code ≡ 0
-    → o .answer .report ≡ told (distance way place d) → StepsTo way place d o
-told-steps way place d o accepts report =
-    record {
-      steps = λ n. (
-        λ (_, e). distance-least way place d n .0 (told-went (distance way place d) n .0 (sym report ∙ e)),
-        λ least. (accepts, report ∙ told-went (distance way place d) n .1 (distance-least way place d n .1 least)),
-      );
-      bell = (
-        λ (_, e). distance-nowhere way place d .0 (told-rang (distance way place d) .0 (sym report ∙ e)),
-        λ none. (accepts, report ∙ told-rang (distance way place d) .1 (distance-nowhere way place d .1 none)),
-      );
-    }
-
--- The text that a key on one side leaves is that many single steps away; with the bell none.
-carried-text : (action : Action) (way : Direction) (found : Search) (s : Side)
-    → carried action way found s .state .text ≡ times (singly action way) (carried action way found s .report .steps) (s .text)
-unfolding carried times
-carried-text Move way (Reached n) s = refl
-carried-text Move way Nowhere s = refl
-carried-text Delete way (Reached n) s = refl
-carried-text Delete way Nowhere s = refl
-
--- ---- On a session
 
 module _ (s : Session) (b : Lent) (on : OnSession s b) where
   abbrev state : Plain
@@ -162,3 +98,21 @@ module _ (s : Session) (b : Lent) (on : OnSession s b) where
         ap (λ p. p .main .text) (key-leads (Find way) find-accepted)
         ∙ carried-text Move way _ side
         ∙ ap₂ (times (move way)) (ap (λ r. r .steps) (sym (key-reports (Find way) find-accepted))) (ap (λ t. t .text) (same-document (state .mode) state))
+
+  -- INSERT, RECALL and QUOTE report 0 steps and no bell, and so does REPLACE at a match. Elsewhere REPLACE reports 0 steps and the bell.
+  pub insert-quiet : (byte : ℕ) → keyed s (Insert byte) b .answer .code ≡ 0 → keyed s (Insert byte) b .answer .report ≡ quiet
+  unfolding pressed onSide inserted
+  insert-quiet byte accepts = key-reports (Insert byte) accepts
+
+  pub recall-quiet : keyed s Recall b .answer .code ≡ 0 → keyed s Recall b .answer .report ≡ quiet
+  unfolding pressed onSide recalled
+  recall-quiet accepts = key-reports Recall accepts
+
+  pub quote-quiet : keyed s Quote b .answer .code ≡ 0 → keyed s Quote b .answer .report ≡ quiet
+  unfolding pressed quoted
+  quote-quiet accepts = key-reports Quote accepts
+
+  pub replace-reports : keyed s Replace b .answer .code ≡ 0
+      → keyed s Replace b .answer .report ≡ cond (matches (state .pattern) (state .main .text)) quiet rang
+  unfolding pressed replaced
+  replace-reports accepts = key-reports Replace accepts ∙ replaced-told (state .mode) state

@@ -2,7 +2,7 @@
 use mathlib.Core.Path.{_≡_}
 use mathlib.Core.Logic.{_↔_, _≢_}
 use Prim.Native.Nat.{_≤_, _<_}
-use Rattle.window.specs.Words.{List, [], _∷_, Bool, true, false, ℕ, _-_, Direction, Action, Move, Delete, Mode, Main, Quoted, Key, Session}
+use Rattle.window.specs.Words.{List, Bool, true, false, ℕ, _-_, Direction, Action, Move, Delete, Mode, Main, Quoted, Key, Session}
 use Rattle.gap.specs.Rules.Doc.{Doc, content, room, move, delete, times}
 use Rattle.gap.specs.Rules.Nearest.{LeastMoves}
 use Rattle.editor.specs.Rules.Refusals.{SIZE, SESSION, KEY, FULL, ROOM}
@@ -13,7 +13,8 @@ use Rattle.window.specs.Rules.Window.{virtual, rowOf, columnOf, window, 
 use Rattle.window.specs.Rules.Rows.{Shortest}
 use Rattle.window.specs.Rules.Core.{Lent, Called, T, tabled, isSession, held, turnedDown}
 use Rattle.window.specs.Rules.Terminal.{Bench, given}
-use Rattle.window.specs.Wording.Promise.{BenchRun, at-end, press, LineRun, at-rest, strike}
+use Rattle.window.specs.Rules.Machine.{Line}
+use Rattle.window.specs.Wording.Promise.{OpenPromise, KeyPromise, BenchRun, at-end, press, LineRun, at-rest, strike}
 
 -- ---- Demand 2: what a key does
 
@@ -31,7 +32,8 @@ pub record Carried (s : Session) (k : Key) (b : Lent) (o : Called) : Type 0 wher
   pub holds : held (o .session) (o .lent .stores) ≡ did .state
   pub lengths : o .session .lengths ≡ lengthsOf (did .state)
   pub stores : o .lent .stores ≡ storesOf (T (b .stores)) quarter (did .state)
-  -- Steps and bell are the plain editor's report.
+  -- Steps and bell are the plain editor's report; place is 0.
+  pub place : o .answer .place ≡ 0
   pub report : o .answer .report ≡ did .report
   -- The screen is the window of that state under the policy's offsets, in which the cursor is visible.
   pub offsets : o .session .frame ≡ policy (s .frame) (virtual (did .state))
@@ -80,7 +82,7 @@ Went o n = (o .answer .code ≡ 0) × (o .answer .report ≡ went n)
 abbrev pub Rang : Called → Type 0
 Rang o = (o .answer .code ≡ 0) × (o .answer .report ≡ rang)
 
--- No number of moves reaches the place.
+-- No number of moves reaches the place, of those that there is room for.
 abbrev pub Unreached : Direction → (Doc → Bool) → Doc → Type 0
 Unreached way place d = (n : ℕ) → 0 < n → n ≤ room way d → place (times (move way) n d) ≡ false
 
@@ -108,6 +110,22 @@ RowsNamed H W (press {at = at} o promise run) = NamesRows H W at o × RowsNamed 
 -- ---- Demand 3 on a line: what has to be sent has room
 
 -- In a run of calls the routine never answers ROOM.
-abbrev pub RunSent : {ks : List Key} {at end : _} → LineRun ks at end → Type 0
+abbrev pub RunSent : {ks : List Key} {at end : Line} → LineRun ks at end → Type 0
 RunSent at-rest = Unit {0}
 RunSent (strike o p key-promise promise run) = (p .code ≢ ROOM) × RunSent run
+
+-- ---- An editor as its answers
+
+-- What an editor answers to a text that is opened, and to a key, on anything it is given.
+abbrev pub Opens : Type 0
+Opens = ℕ → ℕ → ℕ → Lent → Called
+
+abbrev pub Presses : Type 0
+Presses = Session → Key → Lent → Called
+
+-- It keeps the promise of the call.
+abbrev pub OpensWell : Opens → Type 0
+OpensWell opens = (n H W : ℕ) (b : Lent) → OpenPromise n H W b (opens n H W b)
+
+abbrev pub PressesWell : Presses → Type 0
+PressesWell presses = (s : Session) (k : Key) (b : Lent) → KeyPromise s k b (presses s k b)
