@@ -10,9 +10,8 @@ use Rattle.editor.specs.declared.Key.{Key}
 use Rattle.editor.specs.Rules.Refusals.{ROOM}
 use Rattle.editor.specs.Rules.Places.{isAt}
 use Rattle.editor.specs.Rules.Plain.{Plain, opening}
-use Rattle.editor.specs.Rules.Keys.{matches, key, keys, after}
+use Rattle.editor.specs.Rules.Keys.{matches, key, keys, after, Unsound}
 use Rattle.editor.specs.Rules.Bytes.{quarter}
-use Rattle.editor.specs.Rules.Keys.{Unsound}
 use Rattle.window.specs.Words.{Direction, Action, Place, Function, Find, Session}
 use Rattle.window.specs.Rules.Core.{Lent, Called, T, tabled, held, isSession, unopened, opened, turnedDown, keyed}
 use Rattle.window.specs.Rules.Sending.{SendOutcome, unsent}

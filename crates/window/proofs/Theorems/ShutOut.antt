@@ -8,17 +8,15 @@ use lib.ListN.{getD}
 use Rattle.gap.specs.Rules.Sequence.{every, sameBytes, part, zeros, counted}
 use Rattle.gap.specs.Rules.Strings.{bytes}
 use Rattle.gap.specs.Rules.Doc.{move, times, splice}
-use Rattle.gap.specs.Rules.Nearest.{nearest, distance}
+use Rattle.gap.specs.Rules.Nearest.{nearest, distance, LeastMoves}
 use Rattle.gap.specs.Rules.Lines.{newlines, sinceAfter, lines}
 use Rattle.gap.specs.Rules.Layout.{gapped, paired, ungap, unpair, soundGap, soundPair}
 use Rattle.gap.proofs.Laws.Tests.{and-left, and-right}
 use Rattle.gap.proofs.Laws.Sequence.{same-equal}
-use Rattle.gap.proofs.Theorems.Distance.{LeastMoves}
 use Rattle.editor.specs.Rules.Places.{lineBeginning, word, isAt}
 use Rattle.editor.specs.Rules.Plain.{quiet, reporting}
-use Rattle.editor.specs.Rules.Keys.{soundKey, inserted, carried, function, onSide, pressed, fits, bounded, key}
+use Rattle.editor.specs.Rules.Keys.{soundKey, inserted, carried, function, onSide, pressed, fits, bounded, key, Unsound}
 use Rattle.editor.specs.Rules.Bytes.{quarter, sized, plainOf, lengthsOf, storesOf, editorOk}
-use Rattle.editor.proofs.Theorems.Refusals.{Unsound}
 use Rattle.window.specs.Words.{Direction, Action, Place, Session, Answer, Key, Insert, Function}
 use Rattle.window.specs.Rules.Window.{virtualIn, rowCells, joined, window, visible, policy}
 use Rattle.window.specs.Rules.Rows.{firstRow, lastRow}
