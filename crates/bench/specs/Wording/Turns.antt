@@ -1,8 +1,9 @@
 -- How the promises about turns speak.
 use mathlib.Core.Path.{_≡_}
 use Prim.Native.Nat.{_≤_, _<_}
-use Rattle.bench.specs.Words.{List, Bool, true, ℕ, length, Header}
+use Rattle.bench.specs.Words.{List, Bool, true, ℕ, _*_, length, Header}
 use Rattle.gap.specs.Wording.Written.{Wrote}
+use Rattle.editor.specs.Rules.Bytes.{quarter}
 use Rattle.window.specs.declared.Reply.{Reply}
 use Rattle.window.specs.Rules.Core.{Lent}
 use Rattle.bench.specs.declared.Turn.{Turn}

@@ -6,53 +6,11 @@ use borrow.Author.Needs.{needs}
 use Rattle.bench.proofs.run.next_turn.Statement.{statement}
 use Rattle.bench.proofs.run.next_turn.Tie as tie
 
-reading-at-requires : tie.Need-reading-at-requires
-reading-at-requires c κs = search needs
-
-enum-known-reading : tie.Need-enum-known-reading
-enum-known-reading c = search needs
-
-press-requires : tie.Need-press-requires
-press-requires c κs = search needs
-
 answered-requires : tie.Need-answered-requires
 answered-requires c κs =
     let after-press : tie.After-press = search in let after-reading : tie.After-reading = search in
     let start : tie.Start = search in
     (keyed-printable _ _ _ _ (after-press .press .ensures) _ (after-press .press .kept .1 .1 .1 .1 .1 .0), start .pre .1)
-
-enum-told : tie.Need-enum-told
-enum-told c = search needs
-
-stop-requires : tie.Need-stop-requires
-stop-requires c κs = search needs
-
-enum-told-2 : tie.Need-enum-told-2
-enum-told-2 c = search needs
-
-line-number-requires : tie.Need-line-number-requires
-line-number-requires c κs = search needs
-
-put-script-requires : tie.Need-put-script-requires
-put-script-requires c κs = search needs
-
-stop-requires-2 : tie.Need-stop-requires-2
-stop-requires-2 c κs = search needs
-
-same-length : tie.Need-same-length
-same-length c = search needs
-
-same-length-2 : tie.Need-same-length-2
-same-length-2 c = search needs
-
-same-length-3 : tie.Need-same-length-3
-same-length-3 c = search needs
-
-same-length-4 : tie.Need-same-length-4
-same-length-4 c = search needs
-
-same-length-5 : tie.Need-same-length-5
-same-length-5 c = search needs
 
 returns : tie.Need-returns
 returns c =
@@ -70,9 +28,6 @@ returns-2 c =
       onward-last (start .args .t) 0 _ _ (c .stop .ensures) (start .pre .0),
     )
 
-same-length-6 : tie.Need-same-length-6
-same-length-6 c = search needs
-
 returns-3 : tie.Need-returns-3
 returns-3 c =
     let after-line-number : tie.After-line-number = search in let after-enum-told2 : tie.After-enum-told2 = search in
@@ -84,25 +39,19 @@ returns-3 c =
     )
 
 pub next-turn-spec : {M : Type 1} → statement M
-next-turn-spec =
-    tie.close
-    (tie.spec
-    reading-at-requires
-    enum-known-reading
-    press-requires
+next-turn-spec = tie.close (tie.spec
+    (λ c κs. search needs)  -- reading-at-requires
+    (λ c. search needs)  -- enum-known-reading
+    (λ c κs. search needs)  -- press-requires
     answered-requires
-    enum-told
-    stop-requires
-    enum-told-2
-    line-number-requires
-    put-script-requires
-    stop-requires-2
-    same-length
-    same-length-2
-    same-length-3
-    same-length-4
-    same-length-5
-    returns
-    returns-2
-    same-length-6
+    (λ c. search needs)  -- enum-told
+    (λ c κs. search needs)  -- stop-requires
+    (λ c. search needs)  -- enum-told-2
+    (λ c κs. search needs)  -- line-number-requires
+    (λ c κs. search needs)  -- put-script-requires
+    (λ c κs. search needs)  -- stop-requires-2
+    (λ c. search needs) (λ c. search needs) (λ c. search needs) (λ c. search needs)  -- same-length .. same-length-4
+    (λ c. search needs)  -- same-length-5
+    returns returns-2
+    (λ c. search needs)  -- same-length-6
     returns-3)

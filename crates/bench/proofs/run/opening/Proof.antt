@@ -5,18 +5,6 @@ use borrow.Author.Needs.{needs}
 use Rattle.bench.proofs.run.opening.Statement.{statement}
 use Rattle.bench.proofs.run.opening.Tie as tie
 
-add-next : tie.Need-add-next
-add-next c = search needs
-
-add-next-2 : tie.Need-add-next-2
-add-next-2 c = search needs
-
-lay-out-requires : tie.Need-lay-out-requires
-lay-out-requires c κs = search needs
-
-open-requires : tie.Need-open-requires
-open-requires c κs = search needs
-
 answered-requires : tie.Need-answered-requires
 answered-requires c κs =
     let after-open : tie.After-open = search in let after-lay-out : tie.After-lay-out = search in
@@ -27,18 +15,6 @@ same-length : tie.Need-same-length
 same-length c =
     let after-open : tie.After-open = search in let after-lay-out : tie.After-lay-out = search in search needs
 
-same-length-2 : tie.Need-same-length-2
-same-length-2 c = search needs
-
-same-length-3 : tie.Need-same-length-3
-same-length-3 c = search needs
-
-same-length-4 : tie.Need-same-length-4
-same-length-4 c = search needs
-
-same-length-5 : tie.Need-same-length-5
-same-length-5 c = search needs
-
 returns : tie.Need-returns
 returns c =
     let after-open : tie.After-open = search in let after-lay-out : tie.After-lay-out = search in
@@ -46,17 +22,10 @@ returns c =
     opening-does (start .args .h) _ _ (after-lay-out .lay-out .ensures) (after-open .«open» .ensures) (c .before .before .answered .ensures)
 
 pub opening-spec : {M : Type 1} → statement M
-opening-spec =
-    tie.close
-    (tie.spec
-    add-next
-    add-next-2
-    lay-out-requires
-    open-requires
-    answered-requires
-    same-length
-    same-length-2
-    same-length-3
-    same-length-4
-    same-length-5
+opening-spec = tie.close (tie.spec
+    (λ c. search needs) (λ c. search needs)  -- add-next .. add-next-2
+    (λ c κs. search needs)  -- lay-out-requires
+    (λ c κs. search needs)  -- open-requires
+    answered-requires same-length
+    (λ c. search needs) (λ c. search needs) (λ c. search needs) (λ c. search needs)  -- same-length-2 .. same-length-5
     returns)
