@@ -14,11 +14,8 @@ pub mod AfterCalls
 pub mod Line
 pub mod OneOutcome
 pub mod Promises
-<<<<<<< HEAD
 pub mod Pins
 pub mod OverAndBack
 pub mod Boundary
 pub mod HostTerminal
-=======
 pub mod ShutOut
->>>>>>> demands

@@ -122,6 +122,7 @@ line-over s end stop = ⊎-elim at-newline at-end (decided (ltb end (length s)))
   where
     at-newline : ltb end (length s) ≡ true → lineOf (drop end s) ≡ []
     at-newline more = ap lineOf (drop-cons s end 0 (ltb-true _ _ more)) ∙ cond-true _ _ (eq-eqb _ _ (stop (ltb-true _ _ more)))
+
     at-end : ltb end (length s) ≡ false → lineOf (drop end s) ≡ []
     at-end none = ap lineOf (drop-of-length-le s (ltb-false _ _ none))
 
@@ -133,10 +134,10 @@ module _ (s : List ℕ) (at : ℕ) {end : ℕ} where
       let behind : at + (end - at) ≡ end = omega (arith, unbroken .low) in
       let onward : drop (end - at) (drop at s) ≡ drop end s = rw (drop-drop, behind) in
       let cut : drop at s ≡ part at (end - at) s ++ drop end s =
-          sym (rw (← onward) (take-append-drop (end - at) (drop at s))) in
+      sym (rw (← onward) (take-append-drop (end - at) (drop at s))) in
       let over : lineOf (drop end s) ≡ [] = line-over s end stop in
       let line : lineOf (drop at s) ≡ part at (end - at) s =
-          ap lineOf cut ∙ line-goes-on _ _ (unbroken .bytes) ∙ ap (λ t. part at (end - at) s ++ t) over ∙ append-nil _ in
+      ap lineOf cut ∙ line-goes-on _ _ (unbroken .bytes) ∙ ap (λ t. part at (end - at) s ++ t) over ∙ append-nil _ in
       omega (arith, ap length line, length-part at (end - at) s (omega (arith, unbroken .low, unbroken .high)), unbroken .low)
 
   pub ends-unbroken : at ≤ length s → end ≡ endAt s at → Unbroken s at end

@@ -24,7 +24,7 @@ use Rattle.window.specs.Rules.Core.{Lent, Called, T, tabled, isSession, 
 use Rattle.window.specs.Rules.Rows.{Shortest}
 use Rattle.window.specs.Rules.Refusals.{openingChecks, hostKeyChecks}
 use Rattle.window.specs.Rules.Terminal.{openingView, picture}
-use Rattle.window.specs.Rules.Host.{sessionFrom, isHostSession, hostHeld, KeyNumbers, keyOf, names, givenOf}
+use Rattle.window.specs.Rules.Host.{Given, sessionFrom, isHostSession, hostHeld, KeyNumbers, keyOf, names, givenOf}
 use Rattle.window.specs.Rules.Host.{hostOpened, hostUnopened, hostKeyed, hostPressed, hostTurnedDown, noMode}
 use Rattle.window.specs.Wording.Promise.{Follows, HostFollows, HostTold}
 use Rattle.window.proofs.Laws.Window.{length-window}
@@ -32,6 +32,7 @@ use Rattle.window.proofs.Laws.Views.{view-held, view-tabled, view-sessi
 use Rattle.window.proofs.Theorems.Refusals.{opening-code, opening-size, opening-long, opening-text, opening-accepted, opening-leaves}
 use Rattle.window.proofs.Theorems.Refusals.{opening-done, opening-place, opening-no-place, key-code, key-leaves}
 use Rattle.window.proofs.Theorems.Sessions.{opening-view, session-keyed, key-follows}
+use Rattle.window.proofs.Theorems.NamedRows.{unchanged-shortest}
 use Rattle.window.proofs.Theorems.DemandThree.{key-names}
 use Rattle.window.proofs.Theorems.OverAndBack.{session-over, record-over, mode-low, unnamed}
 
@@ -227,9 +228,16 @@ module _ (n : Record) (x : KeyNumbers) (b : Lent) (fit : tabled (n .rows) (n .co
   host-key-refused code e =
       in-core (refused code) e ∙ ap (λ m. hostTurnedDown m b code) (record-over n .1 (leb-true (n .mode) 1 low))
 
-  -- The named rows are the shortest run that covers every row in which the lent screen changed.
+-- ---- Demand 3, row by row: at any call the named rows are the shortest run that covers every row in which the lent screen changed
+
+module _ (n : Record) (x : KeyNumbers) (b : Lent) where
+  abbrev NamedIn : Given → Type 0
+  NamedIn g = Shortest (n .rows) (n .columns) (b .screen) (g .lent .screen) (g .said .first) (g .said .last)
+
   pub host-rows-named :
       Shortest (n .rows) (n .columns) (b .screen) (hostPressed n x b .lent .screen) (hostPressed n x b .said .first) (hostPressed n x b .said .last)
   host-rows-named =
-      subst⁻¹ (λ g. Shortest (n .rows) (n .columns) (b .screen) (g .lent .screen) (g .said .first) (g .said .last)) (in-mode n x b low)
-      (key-names (sessionFrom n) (keyOf x) b fit core-ok)
+      ⊎-elim
+      (λ low. subst⁻¹ NamedIn (in-mode n x b low) (key-names (sessionFrom n) (keyOf x) b))
+      (λ high. subst⁻¹ NamedIn (off-mode n x b high) (unchanged-shortest _ _ _ _ refl))
+      (decided (leb (n .mode) 1))

@@ -24,7 +24,8 @@ use Rattle.window.specs.Rules.Core.{Lent, Called, T, held, turnedDown, u
 use Rattle.window.specs.Rules.Terminal.{Bench, openedBench, given, repaint, openingView, viewed, picture}
 use Rattle.window.specs.Wording.Promise.{BenchRun, at-end, press}
 use Rattle.window.specs.Wording.Demands.{OnSession, textIn, Opens, Presses, OpensWell, PressesWell}
-use Rattle.window.specs.Tables.Table.{markedAfter, pressing, moving, outcome, usual, rightWord}
+use Rattle.gap.specs.Tables.Written.{markedAfter}
+use Rattle.window.specs.Tables.Table.{pressing, moving, outcome, usual, rightWord}
 use Rattle.window.proofs.Theorems.Promises.{steps-moved, terminal-shows}
 
 -- P1's session, `her| hand is`; what right to word gives there, and what it gives again (P2).

@@ -11,8 +11,7 @@ use Rattle.editor.specs.Rules.Places.{isAt}
 use Rattle.editor.specs.Rules.Plain.{Plain, quiet, rang, refused}
 use Rattle.editor.specs.Rules.Keys.{soundKey, inserted, function, recalled, sideOf, onSide, quoted, withPattern, matches, searched, found}
 use Rattle.editor.specs.Rules.Keys.{replaced, pressed, key, after, Unsound}
-use Rattle.editor.specs.Rules.Bytes.{quarter}
-use Rattle.editor.proofs.Laws.Sound.{SoundPlain}
+use Rattle.editor.specs.Rules.Bytes.{quarter, SoundPlain}
 use Rattle.editor.proofs.Laws.States.{side-with}
 use Rattle.editor.proofs.Theorems.Refusals.{key-unsound, refused-full, function-never-full, find-never-full}
 use Rattle.window.specs.Words.{Direction, Action, Move, Place, Session, Key, Insert, Function, Recall, Quote, Find, Replace}
