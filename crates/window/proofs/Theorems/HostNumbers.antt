@@ -15,7 +15,7 @@ use Rattle.editor.specs.Rules.Bytes.{quarter, sized, plainOf, lengthsOf, stores
 use Rattle.window.specs.Rules.Window.{virtualIn, rowCells, joined, window, visible, policy}
 use Rattle.window.specs.Rules.Rows.{firstRow, lastRow}
 use Rattle.window.specs.Rules.Core.{tabled, isSession, openedText, opened, shown, finished, keyed}
-use Rattle.window.specs.Rules.Host.{keyFrom, keyOf, names, hostOpened, hostKeyed}
+use Rattle.window.specs.Rules.Host.{none, keyFrom, keyOf, names, hostOpened, hostKeyed}
 use Rattle.window.specs.Tables.HostNumbers.{keyRows, noKeys, said, pressedOn, lastReply, callRows, refusedReply, refusedRows}
 
 -- Which number is which kind, action, direction and place.
@@ -23,9 +23,11 @@ pub keys-numbered : map (λ row. keyOf (row .numbers)) keyRows ≡ map (λ row. 
 unfolding keyFrom
 keys-numbered = refl
 
--- All of these name a key, and one more than the largest names none.
-pub names-numbered : (map (λ row. names (row .numbers)) keyRows ≡ map (λ row. true) keyRows) × (map names noKeys ≡ map (λ x. false) noKeys)
-names-numbered = (refl, refl)
+-- All of these name a key. One more than the largest names none, and is taken for none.
+pub names-numbered : (map (λ row. names (row .numbers)) keyRows ≡ map (λ row. true) keyRows)
+    × ((map names noKeys ≡ map (λ x. false) noKeys) × (map keyOf noKeys ≡ map (λ x. none) noKeys))
+unfolding keyFrom
+names-numbered = (refl, (refl, refl))
 
 -- What calls answer and hand back, and how a record that is no session is refused: SIZE, SESSION, KEY, and the record back as it was.
 pub calls-numbered : (map lastReply callRows ≡ map (λ row. row .reply) callRows)

@@ -13,10 +13,13 @@ use Rattle.editor.specs.Rules.Bytes.{quarter}
 use Rattle.window.specs.Words.{Session}
 use Rattle.window.specs.Rules.Core.{Lent, T, keyed}
 use Rattle.window.specs.Rules.Terminal.{Bench, View, openingView, openedBench, struck, typed, looked, viewed, picture}
+use Rattle.window.specs.Rules.Sending.{SendOutcome}
 use Rattle.window.specs.Rules.Machine.{Machine, Line, openedLine, struckLine, typedLine, showing, Ready}
-use Rattle.window.specs.Rules.Host.{recordFrom, none, KeyNumbers, keyOf, names, givenOf, hostOpened, hostPressed}
+use Rattle.window.specs.Rules.Host.{recordFrom, none, KeyNumbers, keyOf, names, Given, givenOf, hostOpened, hostPressed}
 use Rattle.window.specs.Rules.HostRun.{keysNamed, HostBench, hostOpenedBench, hostShown, hostStruck, hostTyped}
 use Rattle.window.specs.Rules.HostRun.{HostLine, hostBytes, hostReceived, hostOpenedLine, hostStruckLine, hostTypedLine}
+use Rattle.window.specs.Wording.Promise.{HostOpenPromise, HostSendAfterPromise}
+use Rattle.window.specs.Wording.Promise.{HostBenchRun, host-at-end, host-press, HostLineRun, host-at-rest, host-strike}
 use Rattle.window.proofs.Theorems.DemandThree.{demand-three}
 use Rattle.window.proofs.Theorems.Line.{demand-three-line}
 use Rattle.window.proofs.Theorems.OverAndBack.{session-over, mode-low, unnamed}
@@ -99,3 +102,41 @@ module _ (n H W : ℕ) (b : Lent) (accepts : hostOpened n H W b .said .code ≡ 
         ∙ (demand-three-line n H W b accepts buffer m ready (map keyOf xs) .0 ∙ ap showing (skipped (T (b .stores)) xs (openingView n H W b))),
     demand-three-line n H W b accepts buffer m ready (keysNamed xs) .1,
   )
+
+-- ---- Of whatever the calls and the routine answer, if each meets its promise
+
+run-typed : {xs : List KeyNumbers} {at end : HostBench} → HostBenchRun xs at end → end ≡ hostTyped xs at
+unfolding hostTyped hostStruck
+run-typed host-at-end = refl
+run-typed (host-press {xs = xs} {at = at} g promise run) = run-typed run ∙ ap (λ g. hostTyped xs (hostShown g (at .terminal))) promise
+
+run-line : {xs : List KeyNumbers} {at end : HostLine} → HostLineRun xs at end → end ≡ hostTypedLine xs at
+unfolding hostTypedLine hostStruckLine
+run-line host-at-rest = refl
+run-line (host-strike {xs = xs} {at = at} g p key-promise promise run) =
+    run-line run
+    ∙ (ap (λ p. hostTypedLine xs (hostReceived g p (at .terminal))) promise
+    ∙ ap (λ g. hostTypedLine xs (hostReceived g (hostBytes g (at .buffer)) (at .terminal))) key-promise)
+
+module _ (n H W : ℕ) (b : Lent) (g : Given) (promise : HostOpenPromise n H W b g) (accepts : g .said .code ≡ 0) where
+  pub host-terminal-shows : (xs : List KeyNumbers) (end : HostBench) → HostBenchRun xs (record { given = g; terminal = g .lent .screen }) end
+      → (end .terminal ≡ picture (viewed (T (b .stores)) (keysNamed xs) (openingView n H W b)))
+      × (viewed (T (b .stores)) (keysNamed xs) (openingView n H W b) .plain
+      ≡ keys (T (b .stores)) quarter (keysNamed xs) (opening (take n (b .stores .text))))
+  host-terminal-shows xs end run =
+      let good = ap (λ g. g .said .code) (sym promise) ∙ accepts in
+      let shown = host-demand-three n H W b good xs in
+      (ap (λ at. at .terminal) (run-typed run ∙ ap (λ g. hostTyped xs (record { given = g; terminal = g .lent .screen })) promise) ∙ shown .0, shown .1)
+
+  pub host-line-shows : (buffer : List ℕ) (p : SendOutcome) (m : Machine) → HostSendAfterPromise g buffer p → Ready H W buffer m
+      → (xs : List KeyNumbers) (end : HostLine) → HostLineRun xs (hostReceived g p m) end
+      → (end .terminal ≡ showing (viewed (T (b .stores)) (keysNamed xs) (openingView n H W b)))
+      × (viewed (T (b .stores)) (keysNamed xs) (openingView n H W b) .plain
+      ≡ keys (T (b .stores)) quarter (keysNamed xs) (opening (take n (b .stores .text))))
+  unfolding hostOpenedLine
+  host-line-shows buffer p m send ready xs end run =
+      let good = ap (λ g. g .said .code) (sym promise) ∙ accepts in
+      let begun : hostReceived g p m ≡ hostOpenedLine n H W b buffer m =
+      ap (λ p. hostReceived g p m) send ∙ ap (λ g. hostReceived g (hostBytes g buffer) m) promise in
+      let shown = host-demand-three-line n H W b good buffer m ready xs in
+      (ap (λ at. at .terminal) (run-line run ∙ ap (hostTypedLine xs) begun) ∙ shown .0, shown .1)

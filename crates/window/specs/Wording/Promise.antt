@@ -10,7 +10,8 @@ use Rattle.window.specs.Rules.Core.{Lent, Called, tabled, isSession, hel
 use Rattle.window.specs.Rules.Terminal.{Bench, given}
 use Rattle.window.specs.Rules.Sending.{SendOutcome, sending}
 use Rattle.window.specs.Rules.Machine.{Line, received}
-use Rattle.window.specs.Rules.Host.{sessionFrom, isHostSession, hostHeld, Given, hostOpened, hostKeyed}
+use Rattle.window.specs.Rules.Host.{sessionFrom, isHostSession, hostHeld, KeyNumbers, Given, hostOpened, hostKeyed}
+use Rattle.window.specs.Rules.HostRun.{HostBench, hostShown, HostLine, hostReceived}
 
 abbrev pub OpenPromise : ℕ → ℕ → ℕ → Lent → Called → Type 0
 OpenPromise n H W b o = o ≡ opened n H W b
@@ -28,11 +29,15 @@ HostOpenPromise n H W b g = g ≡ hostOpened n H W b
 abbrev pub HostKeyPromise : Record → ℕ → ℕ → ℕ → ℕ → Lent → Given → Type 0
 HostKeyPromise n kind a b c lent g = g ≡ hostKeyed n kind a b c lent
 
--- What the routine promises of the bytes for a call's answer.
+-- What the routine promises of the bytes for a call's answer, and for one in numbers.
 abbrev pub SendAfterPromise : Called → List ℕ → SendOutcome → Type 0
 SendAfterPromise o buffer p =
     SendPromise (o .session .frame .h) (o .session .frame .w) (o .answer .first) (o .answer .last) (o .answer .row) (o .answer .column)
     (o .lent .screen) buffer p
+
+abbrev pub HostSendAfterPromise : Given → List ℕ → SendOutcome → Type 0
+HostSendAfterPromise g buffer p =
+    SendPromise (g .back .rows) (g .back .columns) (g .said .first) (g .said .last) (g .said .row) (g .said .column) (g .lent .screen) buffer p
 
 -- ---- What the demands say of outcomes that meet these promises
 
@@ -71,3 +76,16 @@ pub data LineRun : List Key → Line → Line → Type 0 where
   strike : {k : Key} {ks : List Key} {at end : Line} (o : Called) (p : SendOutcome)
       → KeyPromise (at .called .session) k (at .called .lent) o → SendAfterPromise o (at .buffer) p
       → LineRun ks (received o p (at .terminal)) end → LineRun (k ∷ ks) at end
+
+-- The same two at the host's boundary, in numbers.
+pub data HostBenchRun : List KeyNumbers → HostBench → HostBench → Type 0 where
+  host-at-end : {at : HostBench} → HostBenchRun [] at at
+  host-press : {x : KeyNumbers} {xs : List KeyNumbers} {at end : HostBench} (g : Given)
+      → HostKeyPromise (at .given .back) (x .kind) (x .a) (x .b) (x .c) (at .given .lent) g
+      → HostBenchRun xs (hostShown g (at .terminal)) end → HostBenchRun (x ∷ xs) at end
+
+pub data HostLineRun : List KeyNumbers → HostLine → HostLine → Type 0 where
+  host-at-rest : {at : HostLine} → HostLineRun [] at at
+  host-strike : {x : KeyNumbers} {xs : List KeyNumbers} {at end : HostLine} (g : Given) (p : SendOutcome)
+      → HostKeyPromise (at .given .back) (x .kind) (x .a) (x .b) (x .c) (at .given .lent) g → HostSendAfterPromise g (at .buffer) p
+      → HostLineRun xs (hostReceived g p (at .terminal)) end → HostLineRun (x ∷ xs) at end
