@@ -223,3 +223,7 @@ names-exactly x = (
       (x .kind),
   λ e. ⊎-elim (λ named. named) (λ none. zeros-name x (e ∙ ap numbersOfKey (unnamed x none))) (decided (names x)),
 )
+
+-- So no key has two names: numbers that name the same key are the same as far as they are looked at.
+pub named-once : (x y : KeyNumbers) → names x ≡ true → names y ≡ true → keyOf x ≡ keyOf y → lookedAt x ≡ lookedAt y
+named-once x y p q same = names-exactly x .0 p ∙ (ap numbersOfKey same ∙ sym (names-exactly y .0 q))

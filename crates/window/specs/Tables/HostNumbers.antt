@@ -88,15 +88,15 @@ back l r ql qr rl rr qrl qrr xl xr pl mode top left rows columns =
       columns = columns;
     }
 
--- A text, in which `$` (36) is a newline and `^` (94) a byte 27, in a store of 40 bytes, and a screen of 5 rows of 6 columns.
+-- A text, in which `$` (36) is a newline and `^` (94) a byte 27, in a store of 40 bytes, and a screen of so many cells.
 abbrev pub written : String → List ℕ
 written s = map (λ b. cond (eqb b 36) 10 (cond (eqb b 94) 27 b)) (bytes s)
 
-abbrev pub storesFor : List ℕ → Lent
-storesFor text =
+abbrev pub storesFor : List ℕ → ℕ → Lent
+storesFor text cells =
     record {
       stores = record { text = text ++ zeros (40 - length text); recall = zeros 40; side = zeros (4 * quarter) };
-      screen = zeros (5 * 6);
+      screen = zeros cells;
     }
 
 -- A list of keys, each called with what the one before gave back.
@@ -104,7 +104,7 @@ unfoldable pub pressedOn : List KeyNumbers → Given → Given
 pressedOn [] g = g
 pressedOn (x ∷ xs) g = pressedOn xs (hostPressed (g .back) x (g .lent))
 
--- A text that is opened, keys, and what the last call replies.
+-- A text that is opened with 5 rows and 6 columns, keys, and what the last call replies.
 pub record CallRow : Type 0 where
   pub text : String
   pub keys : List KeyNumbers
@@ -117,7 +117,7 @@ abbrev pub replyOf : Given → HostReply
 replyOf g = record { said = g .said; back = g .back }
 
 unfoldable pub lastReply : CallRow → HostReply
-lastReply row = replyOf (pressedOn (row .keys) (hostOpened (length (written (row .text))) 5 6 (storesFor (written (row .text)))))
+lastReply row = replyOf (pressedOn (row .keys) (hostOpened (length (written (row .text))) 5 6 (storesFor (written (row .text)) 30)))
 
 -- QUOTE, the bytes of a quotation, and further keys.
 abbrev pub quoting : String → List KeyNumbers → List KeyNumbers
@@ -155,26 +155,30 @@ callRows =
 
 -- ---- Records that are no session
 
--- A record with the same stores, and the number with which a key is refused. The record comes back number for number.
+-- A record with a screen of so many cells, and the number with which a key is refused. The record comes back number for number.
 pub record RefusedRow : Type 0 where
   pub handed : Record
+  pub cells : ℕ
   pub code : ℕ
 
-abbrev pub refuses : Record → ℕ → RefusedRow
-refuses handed code = record { handed = handed; code = code }
+abbrev pub refuses : Record → ℕ → ℕ → RefusedRow
+refuses handed cells code = record { handed = handed; cells = cells; code = code }
 
 -- The key has numbers that name none: SIZE and SESSION come before KEY.
 unfoldable pub refusedReply : RefusedRow → HostReply
-refusedReply row = replyOf (hostPressed (row .handed) (numbers 6 0 0 0) (storesFor []))
+refusedReply row = replyOf (hostPressed (row .handed) (numbers 6 0 0 0) (storesFor [] (row .cells)))
 
--- A mode that is none, and then one that is, with halves of recall texts that are both not empty: SESSION, and before it SIZE.
 abbrev pub refusedRows : List RefusedRow
 refusedRows =
-    refuses (back 10 11 12 13 14 15 16 17 18 19 20 2 21 22 5 6) 4
-    ∷ refuses (back 10 11 12 13 14 15 16 17 18 19 20 2 21 22 6 5) 4
-    ∷ refuses (back 10 11 12 13 14 15 16 17 18 19 20 2 21 22 5 7) 1
-    ∷ refuses (back 10 11 12 13 14 15 16 17 18 19 20 2 21 22 0 0) 1
-    ∷ refuses (back 10 11 12 13 14 15 16 17 18 19 20 1 21 22 5 6) 4
-    ∷ refuses (back 10 11 12 13 14 15 16 17 18 19 20 0 21 22 5 6) 4
-    ∷ refuses (back 10 11 12 13 14 15 16 17 18 19 20 0 21 22 5 7) 1
+    -- A mode that is none: SESSION, and before it SIZE. There may be 100 columns, and no 100 rows.
+    refuses (back 10 11 12 13 14 15 16 17 18 19 20 2 21 22 5 6) 30 4
+    ∷ refuses (back 10 11 12 13 14 15 16 17 18 19 20 2 21 22 5 7) 30 1
+    ∷ refuses (back 10 11 12 13 14 15 16 17 18 19 20 2 21 22 1 100) 100 4
+    ∷ refuses (back 10 11 12 13 14 15 16 17 18 19 20 2 21 22 100 1) 100 1
+    -- A mode that is one, and recall texts with two halves: the same.
+    ∷ refuses (back 10 11 12 13 14 15 16 17 18 19 20 0 21 22 5 6) 30 4
+    ∷ refuses (back 10 11 12 13 14 15 16 17 18 19 20 1 21 22 5 6) 30 4
+    ∷ refuses (back 10 11 12 13 14 15 16 17 18 19 20 1 21 22 5 7) 30 1
+    ∷ refuses (back 10 11 12 13 14 15 16 17 18 19 20 1 21 22 1 100) 100 4
+    ∷ refuses (back 10 11 12 13 14 15 16 17 18 19 20 1 21 22 100 1) 100 1
     ∷ []
