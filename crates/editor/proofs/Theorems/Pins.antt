@@ -51,7 +51,7 @@ replacements-pinned = refl
 
 pub layouts-pinned : broken itself layoutPins ≡ []
 unfolding sameBytes part zeros bytes move times splice nearest distance gapped paired ungap unpair allOf broken markedAfter storedAs isAt soundKey
-    inserted carried function onSide pressed fits bounded key keys quarter sized plainOf lengthsOf storesOf
+    inserted carried function onSide quoted pressed fits bounded key keys quarter sized plainOf lengthsOf storesOf
 layouts-pinned = refl
 
 pub sessions-pinned : broken itself sessionPins ≡ []

@@ -2,7 +2,7 @@
 -- A free byte is written `_`.
 use Prim.Native.String.{String}
 use Rattle.editor.specs.Words.{List, [], _∷_, _++_, Bool, true, not, _&&_, ℕ, eqb, length, Mode, Main, Quoted, Sizes, Lengths}
-use Rattle.editor.specs.Words.{Move, Right, Character, Insert, Function}
+use Rattle.editor.specs.Words.{Move, Right, Character, Insert, Function, Quote}
 use Rattle.gap.specs.Rules.Sequence.{sameBytes, zeros}
 use Rattle.gap.specs.Rules.Strings.{bytes}
 use Rattle.gap.specs.Rules.Doc.{content}
@@ -84,7 +84,9 @@ layoutPins =
     ∷ sentence "FULL: the document has T bytes and the quotation those of a quarter, each at the most"
     (fits 3 3 full ∷ not (fits 2 3 full) ∷ not (fits 3 2 full) ∷ [])
     ∷ sentence "a refused key leaves the state as it was, and the next goes on from there"
-    (isDoc (keys 3 4 (Insert 120 ∷ Insert 121 ∷ Insert 9 ∷ Function Move Right Character ∷ []) (opening (bytes "ab")) .main .text) "xa|b" ∷ [])
+    (isDoc (keys 3 4 (Insert 120 ∷ Insert 121 ∷ Insert 9 ∷ Function Move Right Character ∷ []) (opening (bytes "ab")) .main .text) "xa|b"
+    ∷ isDoc (keys 3 4 (Quote ∷ Insert 120 ∷ Insert 9 ∷ Insert 121 ∷ []) (opening (bytes "ab")) .quoted .text) "xy|"
+    ∷ [])
     ∷ []
 
 -- ---- Sessions
