@@ -1,3 +1,4 @@
 pub mod Names
 pub mod Samples
 pub mod Turns
+pub mod Pins

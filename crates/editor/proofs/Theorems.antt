@@ -3,3 +3,4 @@ pub mod Places
 pub mod Sessions
 pub mod Refusals
 pub mod Recall
+pub mod Pins

@@ -1,3 +1,4 @@
--- How the contracts of this layer's functions speak. No rule stands here.
+-- How the contracts of this layer's functions speak, and theorems about the rules. No rule stands here.
 pub mod Promise
 pub mod Searches
+pub mod Neighbours

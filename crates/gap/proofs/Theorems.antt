@@ -3,3 +3,4 @@ pub mod DocProperties
 pub mod PlaceTheorem
 pub mod Flatten
 pub mod Decimals
+pub mod Pins

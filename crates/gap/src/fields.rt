@@ -4,28 +4,14 @@ use crate::compare::begins_with;
 use crate::decimals::number_of;
 use crate::decimals::put_decimal;
 use crate::lines::count_newlines;
+use crate::lines::end_at;
 use crate::writers::put;
 ghost use mathlib.Core.Path.{_≡_};
 ghost use Prim.Native.Nat.{_+_, _≤_};
 ghost use lib.ListN.{length};
 ghost use Rattle.gap.specs.Rules.Decimal.{wordDigits};
-ghost use Rattle.gap.specs.Rules.Fields.{endAt, nextAt, lineNumber, fieldOf, headerAt, entry};
+ghost use Rattle.gap.specs.Rules.Fields.{nextAt, lineNumber, fieldOf, headerAt, entry};
 ghost use Rattle.gap.specs.Wording.Written.{Wrote};
-
-// Where the line that starts at `at` ends.
-pub fn end_at(s: &[u8], at: usize) -> usize
-    requires { ⌜ at ≤ length (now s) ⌝ }
-    ensures { λ end. ⌜ end ≡ endAt (now (s .entry)) at ⌝ }
-{
-    let mut end = at;
-    while end < s.len() {
-        if s[end] == 10 {
-            return end;
-        }
-        end += 1;
-    }
-    end
-}
 
 // Where the next line starts.
 pub fn next_at(s: &[u8], at: usize) -> usize

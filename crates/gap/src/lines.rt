@@ -6,6 +6,7 @@ ghost use lib.Dec.{eqb};
 ghost use lib.ListN.{length};
 ghost use Rattle.gap.specs.Rules.Sequence.{every};
 ghost use Rattle.gap.specs.Rules.Lines.{newline, newlines, sinceAfter, Unbroken};
+ghost use Rattle.gap.specs.Rules.Fields.{endAt};
 
 // The newlines of a short run, in a byte, so that the loop is vectorised.
 fn newlines_short(s: &[u8]) -> u8
@@ -71,7 +72,7 @@ fn back_without(s: &[u8]) -> usize
 }
 
 // A place up to which there is no newline from place `at` on: the same in the other direction.
-pub fn front_without(s: &[u8], at: usize) -> usize
+fn front_without(s: &[u8], at: usize) -> usize
     requires { ⌜ at ≤ length (now s) ⌝ }
     ensures { λ r. ⌜ Unbroken (now (s .entry)) at r ⌝ }
 {
@@ -86,6 +87,21 @@ pub fn front_without(s: &[u8], at: usize) -> usize
         i = end;
     }
     i
+}
+
+// Where the line that starts at `at` ends: at a newline, or at the end.
+pub fn end_at(s: &[u8], at: usize) -> usize
+    requires { ⌜ at ≤ length (now s) ⌝ }
+    ensures { λ end. ⌜ end ≡ endAt (now (s .entry)) at ⌝ }
+{
+    let mut end = front_without(s, at);
+    while end < s.len() {
+        if s[end] == 10 {
+            return end;
+        }
+        end += 1;
+    }
+    end
 }
 
 // The bytes since the last newline, of a run that follows n bytes of its line: from the back, only as far as that newline.

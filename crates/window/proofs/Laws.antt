@@ -1,6 +1,7 @@
 pub mod Window
 pub mod Rows
 pub mod Views
+pub mod Reports
 pub mod Spots
 pub mod Pieces
 pub mod Paint

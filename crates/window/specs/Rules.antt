@@ -8,3 +8,4 @@ pub mod Sequences
 pub mod Sending
 pub mod Machine
 pub mod Host
+pub mod HostRun

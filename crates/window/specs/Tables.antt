@@ -1,3 +1,7 @@
 -- Worked examples, computed through the definitions.
 pub mod Table
+pub mod WindowPins
+pub mod CallPins
+pub mod TerminalPins
 pub mod SendSamples
+pub mod HostNumbers

@@ -27,7 +27,8 @@ ghost use Prim.Native.Nat.{_*_, _≤_};
 ghost use lib.ListN.{length};
 ghost use Rattle.editor.specs.Rules.Bytes.{quarter, sized};
 ghost use Rattle.editor.specs.Wording.Promise.{stores};
-ghost use Rattle.window.specs.Rules.Core.{rowsAndColumns, tabled, isSession, refusal, openedText, opened, keyed};
+ghost use Rattle.window.specs.Rules.Core.{rowsAndColumns, tabled, isSession, refusal, openedText};
+ghost use Rattle.window.specs.Wording.Promise.{OpenPromise, KeyPromise};
 ghost use Rattle.window.specs.Wording.Calls.{Texts, lent, called, unopenedReply, turnedDownReply, Shows};
 
 // ---- Sizes and sessions
@@ -166,8 +167,8 @@ pub fn open(
     side: &mut [u8],
     screen: &mut [u8],
 ) -> Reply
-    ensures { λ r. ⌜ called r (lent (now (text .exit)) (now (recall .exit)) (now (side .exit)) (now (screen .exit)))
-        ≡ opened n h w (lent (now (text .entry)) (now (recall .entry)) (now (side .entry)) (now (screen .entry))) ⌝ }
+    ensures { λ r. ⌜ OpenPromise n h w (lent (now (text .entry)) (now (recall .entry)) (now (side .entry)) (now (screen .entry)))
+        (called r (lent (now (text .exit)) (now (recall .exit)) (now (side .exit)) (now (screen .exit)))) ⌝ }
 {
     if !tabled_stores(h, w, text, recall, side, screen) {
         return unopened(SIZE, 0);
@@ -220,8 +221,8 @@ pub fn press(
     side: &mut [u8],
     screen: &mut [u8],
 ) -> Reply
-    ensures { λ r. ⌜ called r (lent (now (text .exit)) (now (recall .exit)) (now (side .exit)) (now (screen .exit)))
-        ≡ keyed s k (lent (now (text .entry)) (now (recall .entry)) (now (side .entry)) (now (screen .entry))) ⌝ }
+    ensures { λ r. ⌜ KeyPromise s k (lent (now (text .entry)) (now (recall .entry)) (now (side .entry)) (now (screen .entry)))
+        (called r (lent (now (text .exit)) (now (recall .exit)) (now (side .exit)) (now (screen .exit)))) ⌝ }
 {
     let lengths = s.lengths;
     let frame = s.frame;

@@ -19,9 +19,9 @@ use gap::numbers::bit_of;
 ghost use mathlib.Core.Path.{_≡_};
 ghost use Rattle.window.specs.Wording.Calls.{lent};
 ghost use Rattle.window.specs.Rules.Core.{refusal};
-ghost use Rattle.window.specs.Rules.Sending.{sending};
+ghost use Rattle.window.specs.Wording.Promise.{HostOpenPromise, HostKeyPromise, SendPromise};
 ghost use Rattle.window.specs.Wording.Writing.{outcomeOf};
-ghost use Rattle.window.specs.Rules.Host.{modeOf, sessionFrom, modeNumber, recordFrom, numbersOf, saidOf, given, hostOpened, hostKeyed};
+ghost use Rattle.window.specs.Rules.Host.{modeOf, sessionFrom, modeNumber, recordFrom, numbersOf, saidOf, given};
 
 // The session record in document order: lengths of the document left and right of its cursor, of the quotation, of both halves of the
 // document's recall text and of the quotation's, of both halves of the replacement, of the pattern; mode; offsets; rows and columns.
@@ -200,8 +200,8 @@ pub extern "C" fn chidukwore_open(
     side: &mut [u8],
     screen: &mut [u8],
 ) -> HostReply
-    ensures { λ q. ⌜ given q (lent (now (text .exit)) (now (recall .exit)) (now (side .exit)) (now (screen .exit)))
-        ≡ hostOpened n rows columns (lent (now (text .entry)) (now (recall .entry)) (now (side .entry)) (now (screen .entry))) ⌝ }
+    ensures { λ q. ⌜ HostOpenPromise n rows columns (lent (now (text .entry)) (now (recall .entry)) (now (side .entry)) (now (screen .entry)))
+        (given q (lent (now (text .exit)) (now (recall .exit)) (now (side .exit)) (now (screen .exit)))) ⌝ }
 {
     in_numbers(open(n, rows, columns, text, recall, side, screen))
 }
@@ -219,8 +219,8 @@ pub extern "C" fn chidukwore_key(
     side: &mut [u8],
     screen: &mut [u8],
 ) -> HostReply
-    ensures { λ q. ⌜ given q (lent (now (text .exit)) (now (recall .exit)) (now (side .exit)) (now (screen .exit)))
-        ≡ hostKeyed n kind a b c (lent (now (text .entry)) (now (recall .entry)) (now (side .entry)) (now (screen .entry))) ⌝ }
+    ensures { λ q. ⌜ HostKeyPromise n kind a b c (lent (now (text .entry)) (now (recall .entry)) (now (side .entry)) (now (screen .entry)))
+        (given q (lent (now (text .exit)) (now (recall .exit)) (now (side .exit)) (now (screen .exit)))) ⌝ }
 {
     let mode = n.mode;
     let rows = n.rows;
@@ -253,8 +253,8 @@ pub extern "C" fn chidukwore_paint(
     screen: &[u8],
     buffer: &mut [u8],
 ) -> Sending
-    ensures { λ a. ⌜ outcomeOf a (now (buffer .exit))
-        ≡ sending rows columns first last row column (now (screen .entry)) (now (buffer .entry)) ⌝ }
+    ensures { λ a. ⌜ SendPromise rows columns first last row column (now (screen .entry)) (now (buffer .entry))
+        (outcomeOf a (now (buffer .exit))) ⌝ }
 {
     let update = Update {
         first: first,

@@ -10,35 +10,20 @@ use editor::Lengths;
 use editor::Mode;
 use editor::QUARTER;
 use gap::lines::count_newlines;
-use gap::lines::front_without;
+use gap::lines::end_at;
 use gap::lines::since_newline;
 ghost use mathlib.Core.Path.{_≡_};
 ghost use mathlib.Core.Bool.{true, false};
 ghost use Prim.Native.Nat.{_+_, _-_, _≤_, _<_};
 ghost use lib.ListN.{length};
 ghost use Rattle.gap.specs.Rules.Lines.{newline, newlines};
-ghost use Rattle.window.specs.Wording.Painter.{above, paint, finishPaint, begun, Easel, Canvas, sheet, RunEnd, LineStart};
+ghost use Rattle.window.specs.Wording.Painter.{above, paint, finishPaint, begun, Easel, Canvas, sheet, LineStart};
 ghost use mathlib.Core.List.{[], _∷_};
 ghost use Rattle.gap.specs.Rules.Doc.{content};
 ghost use Rattle.gap.specs.Rules.Layout.{ungap};
 ghost use Rattle.editor.specs.declared.Mode.the-variants.{Quoted};
 ghost use Rattle.window.specs.Rules.Window.{virtualIn, visible};
 ghost use Rattle.window.specs.Wording.Calls.{Texts, virtualHeld, Refreshed};
-
-// Where the run from index i on ends: at a newline, or at the end.
-fn run_end(t: &[u8], i: usize) -> usize
-    requires { ⌜ i ≤ length (now t) ⌝ }
-    ensures { λ e. ⌜ RunEnd (now (t .entry)) i e ⌝ }
-{
-    let mut e = front_without(t, i);
-    while e < t.len() {
-        if t[e] == 10 {
-            return e;
-        }
-        e += 1;
-    }
-    e
-}
 
 // A text from the window's first line on, run by run, until it ends or the window does.
 fn draw(f: Frame, pen: Pen, t: &[u8], screen: &mut [u8]) -> Pen
@@ -55,7 +40,7 @@ fn draw(f: Frame, pen: Pen, t: &[u8], screen: &mut [u8]) -> Pen
         if bottom <= y {
             return now;
         }
-        let e = run_end(t, i);
+        let e = end_at(t, i);
         let drawn = draw_run(f, now, &t[i..e], screen);
         if n <= e {
             return drawn;

@@ -11,7 +11,8 @@ use gap::Search;
 use gap::sound::bad_cell;
 ghost use mathlib.Core.Path.{_≡_};
 ghost use Rattle.window.specs.Rules.Sequences.{sentScreen};
-ghost use Rattle.window.specs.Rules.Sending.{rowsOn, cursorOn, sendable, sentInto, sending};
+ghost use Rattle.window.specs.Rules.Sending.{rowsOn, cursorOn, sendable, sentInto};
+ghost use Rattle.window.specs.Wording.Promise.{SendPromise};
 ghost use Rattle.window.specs.Wording.Writing.{RowsIn, outcomeOf};
 
 // What a terminal is brought up to date with: the named rows, first and last, and the cursor, as a call answers them.
@@ -78,8 +79,8 @@ fn send_counted(w: usize, u: Update, screen: &[u8], out: &mut [u8]) -> Sending
 
 // SIZE, TEXT, ROOM, or the bytes at the front of the buffer.
 pub fn send(h: usize, w: usize, u: Update, screen: &[u8], out: &mut [u8]) -> Sending
-    ensures { λ a. ⌜ outcomeOf a (now (out .exit))
-        ≡ sending h w (u .first) (u .last) (u .row) (u .column) (now (screen .entry)) (now (out .entry)) ⌝ }
+    ensures { λ a. ⌜ SendPromise h w (u .first) (u .last) (u .row) (u .column) (now (screen .entry)) (now (out .entry))
+        (outcomeOf a (now (out .exit))) ⌝ }
 {
     if !is_sendable(h, w, u, screen) {
         return unsent(SIZE, 0);

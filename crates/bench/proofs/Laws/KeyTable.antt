@@ -6,9 +6,9 @@ use native.Mathlib.Omega.{arith}
 use lib.ListN.{length, take, getD, length-append}
 use lib.Seq.{take-append-seam}
 use Rattle.gap.proofs.Laws.Sequence.{at-map}
-use Rattle.window.specs.Rules.Host.{functionFrom}
+use Rattle.window.specs.Rules.Host.{functionFrom, actionNumber, directionNumber, placeNumber}
 use Rattle.bench.specs.Words.{Key, Recall, Entry}
-use Rattle.bench.specs.Rules.Names.{Combination, nameOf, combinations, combinationAt, functionOf, actionNumber, directionNumber, placeNumber, entryOf}
+use Rattle.bench.specs.Rules.Names.{Combination, nameOf, combinations, combinationAt, functionOf, entryOf}
 
 pub row-made : (i : ℕ) (none : Entry) → i < 20 → getD (map entryOf combinations) i none ≡ entryOf (combinationAt i)
 unfolding combinations

@@ -7,6 +7,7 @@ use Rattle.gap.specs.Rules.Sequence.{sameBytes, begins, zeros}
 use Rattle.gap.specs.Rules.Strings.{bytes}
 use Rattle.gap.specs.Rules.Nearest.{nearest}
 use Rattle.gap.specs.Rules.Decimal.{numberOf}
+use Rattle.window.specs.Rules.Host.{actionNumber, directionNumber, placeNumber}
 
 -- ---- Function keys
 
@@ -53,21 +54,6 @@ functionOf c = Function (c .action) (c .direction) (c .place)
 
 -- A row of the constant table: the combination in the numbers of the host's boundary, the length of its name, and its name filled up
 -- with zeros.
-abbrev pub actionNumber : Action → ℕ
-actionNumber Move = 0
-actionNumber Delete = 1
-
-abbrev pub directionNumber : Direction → ℕ
-directionNumber Left = 0
-directionNumber Right = 1
-
-abbrev pub placeNumber : Place → ℕ
-placeNumber Character = 0
-placeNumber Word = 1
-placeNumber LineBeginning = 2
-placeNumber LineEnding = 3
-placeNumber Document = 4
-
 abbrev pub widthOfNames : ℕ
 widthOfNames = 24
 

@@ -1,17 +1,20 @@
 -- Laws of lines by their places: where a line ends, where the next one starts, and how lines are counted.
 use mathlib.Core.Path.{_≡_, refl, sym, ap, _∙_}
-use mathlib.Core.Bool.{Bool, true, false, cond}
-use mathlib.Core.List.{List, [], _∷_}
+use mathlib.Core.Logic.{⊎-elim}
+use mathlib.Core.Bool.{Bool, true, false, not, cond}
+use mathlib.Core.List.{List, [], _∷_, _++_, append-nil}
 use Prim.Native.Nat.{ℕ, suc, _+_, _-_, _≤_, _<_}
 use native.Mathlib.Numerals.{add-one}
 use native.Mathlib.Omega.{arith}
 use lib.Dec.{eqb, ltb}
-use lib.ListN.{length, take, drop, getD, length-take, length-drop, drop-of-length-le}
-use lib.Seq.{drop-cons}
-use borrow.Author.Tests.{ltb-true, ltb-false, lt-ltb, le-ltb, eq-eqb, ne-eqb}
+use lib.ListN.{length, take, drop, getD, length-take, length-drop, take-append-drop, drop-of-length-le}
+use lib.Seq.{drop-cons, drop-drop, getD-drop}
+use borrow.Author.Tests.{ltb-true, ltb-false, lt-ltb, le-ltb, eq-eqb, eqb-true, not-true}
 use borrow.Rule.Slice.PartMut.{midOf}
-use Rattle.gap.specs.Rules.Lines.{newline, newlines}
-use Rattle.gap.proofs.Laws.Tests.{cond-true, cond-false}
+use Rattle.gap.specs.Rules.Sequence.{every, part}
+use Rattle.gap.specs.Rules.Lines.{newline, newlines, Unbroken}
+use Rattle.gap.proofs.Laws.Tests.{cond-true, cond-false, and-left, and-right, and-both, decided}
+use Rattle.gap.proofs.Laws.Sequence.{length-part}
 use Rattle.gap.proofs.Laws.Lines.{front-newlines}
 use Rattle.gap.specs.Rules.Fields.{lineOf, lineAt, endAt, nextAt, lineNumber}
 
@@ -82,35 +85,75 @@ module _ (s : List ℕ) (at : ℕ) where
 
 -- ---- The search for a line's end
 
--- No newline stands from `at` up to `end`, so that the bytes from there on decide where the line ends.
-pub record Unended (s : List ℕ) (at end : ℕ) : Type 0 where
-  pub within : end ≤ length s
-  pub rest : endAt s at ≡ endAt s end
+-- What has no newline is the front of a line; and a line has none.
+line-goes-on : (front rest : List ℕ) → every (λ b. not (eqb b newline)) front ≡ true → lineOf (front ++ rest) ≡ front ++ lineOf rest
+unfolding lineOf every
+line-goes-on [] rest none = refl
+line-goes-on (b ∷ front) rest none =
+    cond-false {t = eqb b newline} [] (b ∷ lineOf (front ++ rest)) (not-true (eqb b newline) (and-left (not (eqb b newline)) _ none))
+    ∙ ap (λ t. b ∷ t) (line-goes-on front rest (and-right (not (eqb b newline)) _ none))
 
--- One byte decides, or those behind it do.
-one-byte : (is : Bool) (end b : ℕ) (line : List ℕ) → end + length (cond is [] (b ∷ line)) ≡ cond is end (suc end + length line)
-one-byte true end b line = omega arith
-one-byte false end b line = omega arith
+unbroken-from : (is : Bool) (b : ℕ) (line : List ℕ) → eqb b newline ≡ is → every (λ b. not (eqb b newline)) line ≡ true
+    → every (λ b. not (eqb b newline)) (cond is [] (b ∷ line)) ≡ true
+unfolding every
+unbroken-from true b line e none = refl
+unbroken-from false b line e none = and-both (ap not e) none
 
-module _ (s : List ℕ) (at : ℕ) where
-  pub unended-start : at ≤ length s → Unended s at at
-  unended-start inside = record { within = inside; rest = refl }
+line-unbroken : (s : List ℕ) → every (λ b. not (eqb b newline)) (lineOf s) ≡ true
+unfolding lineOf every
+line-unbroken [] = refl
+line-unbroken (b ∷ s) = unbroken-from (eqb b newline) b (lineOf s) refl (line-unbroken s)
 
-  module _ (end : ℕ) (so-far : Unended s at end) where
-    pub unended-all : length s ≤ end → end ≡ endAt s at
-    unfolding endAt lineAt lineOf
-    unended-all none = sym (so-far .rest ∙ rw drop-of-length-le (omega arith))
+-- Behind a line that is shorter than what is left there is a newline.
+newline-behind : (is : Bool) (b : ℕ) (line s : List ℕ) → eqb b newline ≡ is → (length line < length s → getD s (length line) 0 ≡ newline)
+    → length (cond is [] (b ∷ line)) < length (b ∷ s) → getD (b ∷ s) (length (cond is [] (b ∷ line))) 0 ≡ newline
+newline-behind true b line s e behind more = eqb-true b newline e
+newline-behind false b line s e behind more = behind (omega arith)
 
-    module _ (more : end < length s) where
-      next-byte : endAt s at ≡ cond (eqb (getD s end 0) newline) end (endAt s (end + 1))
-      unfolding endAt lineAt lineOf
-      next-byte = so-far .rest ∙ rw (drop-cons s end 0 more, add-one) (one-byte (eqb (getD s end 0) newline) end _ _)
+line-stops : (s : List ℕ) → length (lineOf s) < length s → getD s (length (lineOf s)) 0 ≡ newline
+unfolding lineOf
+line-stops [] more = absurd (omega arith)
+line-stops (b ∷ s) more = newline-behind (eqb b newline) b (lineOf s) s refl (line-stops s) more
 
-      pub unended-found : getD s end 0 ≡ newline → end ≡ endAt s at
-      unended-found e = sym (next-byte ∙ cond-true _ _ (eq-eqb _ _ e))
+-- Where a newline stands, or nothing, the line is empty.
+line-over : (s : List ℕ) (end : ℕ) → (end < length s → getD s end 0 ≡ newline) → lineOf (drop end s) ≡ []
+unfolding lineOf
+line-over s end stop = ⊎-elim at-newline at-end (decided (ltb end (length s)))
+  where
+    at-newline : ltb end (length s) ≡ true → lineOf (drop end s) ≡ []
+    at-newline more = ap lineOf (drop-cons s end 0 (ltb-true _ _ more)) ∙ cond-true _ _ (eq-eqb _ _ (stop (ltb-true _ _ more)))
 
-      pub unended-more : (getD s end 0 ≡ newline → ⊥) → Unended s at (end + 1)
-      unended-more e = record { within = omega arith; rest = next-byte ∙ cond-false _ _ (ne-eqb _ _ e) }
+    at-end : ltb end (length s) ≡ false → lineOf (drop end s) ≡ []
+    at-end none = ap lineOf (drop-of-length-le s (ltb-false _ _ none))
+
+-- A line ends at a place exactly when no newline stands before it and one stands there, or the bytes end there.
+module _ (s : List ℕ) (at : ℕ) {end : ℕ} where
+  pub unbroken-ends : Unbroken s at end → (end < length s → getD s end 0 ≡ newline) → end ≡ endAt s at
+  unfolding endAt lineAt part
+  unbroken-ends unbroken stop =
+      let behind : at + (end - at) ≡ end = omega (arith, unbroken .low) in
+      let onward : drop (end - at) (drop at s) ≡ drop end s = rw (drop-drop, behind) in
+      let cut : drop at s ≡ part at (end - at) s ++ drop end s =
+      sym (rw (← onward) (take-append-drop (end - at) (drop at s))) in
+      let over : lineOf (drop end s) ≡ [] = line-over s end stop in
+      let line : lineOf (drop at s) ≡ part at (end - at) s =
+      ap lineOf cut ∙ line-goes-on _ _ (unbroken .bytes) ∙ ap (λ t. part at (end - at) s ++ t) over ∙ append-nil _ in
+      omega (arith, ap length line, length-part at (end - at) s (omega (arith, unbroken .low, unbroken .high)), unbroken .low)
+
+  pub ends-unbroken : at ≤ length s → end ≡ endAt s at → Unbroken s at end
+  unfolding lineAt part
+  ends-unbroken inside ends =
+      record {
+        low = line-starts s at ends;
+        high = line-inside s at ends inside;
+        bytes = ap (every (λ b. not (eqb b newline))) (line-lent s at ends) ∙ line-unbroken (drop at s);
+      }
+
+  pub ends-stop : end ≡ endAt s at → end < length s → getD s end 0 ≡ newline
+  unfolding endAt lineAt
+  ends-stop ends more =
+      ap (λ k. getD s k 0) ends ∙ sym (getD-drop at s (length (lineOf (drop at s))) 0)
+      ∙ line-stops (drop at s) (omega (arith, length-drop at s))
 
 -- ---- Line numbers
 

@@ -3,18 +3,19 @@
 use mathlib.Core.Path.{_≡_, refl, sym, ap, _∙_}
 use mathlib.Core.Logic.{_↔_}
 use mathlib.Core.Bool.{Bool, true}
-use mathlib.Core.List.{[], _∷_}
+use mathlib.Core.List.{[], _∷_, append-nil}
 use Prim.Native.Nat.{ℕ, _+_, _-_, _≤_}
 use native.Mathlib.Omega.{arith}
 use lib.Dec.{eqb}
+use lib.ListN.{length-take, length-drop}
 use Rattle.gap.specs.declared.Direction.{Direction}
 use Rattle.gap.specs.declared.Direction.the-variants.{Left, Right}
 use Rattle.gap.specs.declared.Search.{Search}
 use Rattle.gap.specs.declared.Search.the-variants.{Reached, Nowhere}
-use Rattle.gap.specs.Rules.Doc.{Doc, content, room, move, delete, times}
+use Rattle.gap.specs.Rules.Doc.{Doc, content, room, move, delete, times, splice}
 use Rattle.gap.specs.Rules.Nearest.{nearest, distance, LeastMoves}
 use Rattle.gap.specs.Rules.Lines.{newline, since, sinceAfter}
-use Rattle.gap.proofs.Laws.Doc.{opposite, times-add, room-moves, room-behind, content-moves, moves-back, deletions-behind}
+use Rattle.gap.proofs.Laws.Doc.{opposite, times-add, room-moves, room-behind, content-moves, moves-back, deletions-behind, deletions-left, deletions-right}
 use Rattle.gap.proofs.Theorems.Distance.{distance-least}
 
 -- 001's `to`: as many single actions as the distance is. Where no such place is reachable, the document stays.
@@ -35,6 +36,17 @@ partly-back way m n d fewer fits =
     ap (λ k. times (move (opposite way)) m (times (move way) k d)) parts
     ∙ ap (times (move (opposite way)) m) (times-add (move way) (n - m) m d)
     ∙ moves-back way m (times (move way) (n - m) d) rest
+
+-- n deletions take n from the room in their direction, and leave the other side as it is.
+room-deleted : (way : Direction) (n : ℕ) (d : Doc) → room way (times (delete way) n d) ≡ room way d - n
+unfolding splice
+room-deleted Left n d = rw deletions-left (simp (append-nil, length-take) (omega arith))
+room-deleted Right n d = rw deletions-right (length-drop n (d .r))
+
+room-kept : (way : Direction) (n : ℕ) (d : Doc) → room (opposite way) (times (delete way) n d) ≡ room (opposite way) d
+unfolding splice
+room-kept Left n d = rw deletions-left
+room-kept Right n d = rw deletions-right (simp (append-nil, length-take) (omega arith))
 
 reached : (action : Direction → Doc → Doc) (way : Direction) (place : Doc → Bool) (d : Doc) (n : ℕ)
     → distance way place d ≡ Reached n → to action way place d ≡ times (action way) n d
@@ -74,13 +86,32 @@ module _ (way : Direction) (place : Doc → Bool) (d : Doc) (n : ℕ) (there : d
       only-if (Reached m) back e = ap place (sym e) ∙ distance-least (opposite way) place (times (move way) n d) m .0 back .reaches
       only-if Nowhere back e = absurd (omega (arith, ap (room way) e, room-moves way n d, least .above, least .within))
 
-  -- Deleting that far is going there and deleting back to the nearest such place, if the start is one.
-  pub deletion-back : place d ≡ true → to delete (opposite way) place (to move way place d) ≡ to delete way place d
-  deletion-back start =
-      ap (to delete (opposite way) place) gone
-      ∙ reached delete (opposite way) place (times (move way) n d) n (distance-back start)
-      ∙ deletions-behind way n d (least .within)
-      ∙ sym (reached delete way place d n there)
+  -- Going there and deleting back to the nearest such place is deleting that far if the start is such a place, and only then.
+  pub deletion-back : (to delete (opposite way) place (to move way place d) ≡ to delete way place d) ↔ (place d ≡ true)
+  deletion-back = (λ e. only-if _ refl (sym (ap (to delete (opposite way) place) gone) ∙ e ∙ away), if)
+    where
+      away : to delete way place d ≡ times (delete way) n d
+      away = reached delete way place d n there
+
+      if : place d ≡ true → to delete (opposite way) place (to move way place d) ≡ to delete way place d
+      if start =
+          ap (to delete (opposite way) place) gone
+          ∙ reached delete (opposite way) place (times (move way) n d) n (distance-back start)
+          ∙ deletions-behind way n d (least .within)
+          ∙ sym away
+
+      -- As many bytes are gone on either way, so the way back has n steps.
+      only-if : (s : Search) → distance (opposite way) place (times (move way) n d) ≡ s
+          → repeated (delete (opposite way)) s (times (move way) n d) ≡ times (delete way) n d → place d ≡ true
+      only-if (Reached m) back e =
+          let there-again = distance-least (opposite way) place (times (move way) n d) m .0 back in
+          let behind = room-behind way n d (least .within) in
+          let as-many : m ≡ n =
+          omega (arith, ap (room (opposite way)) e, room-deleted (opposite way) m (times (move way) n d), room-kept way n d, there-again .within) in
+          ap place (sym (moves-back way n d (least .within)) ∙ ap (λ k. times (move (opposite way)) k (times (move way) n d)) (sym as-many))
+          ∙ there-again .reaches
+      only-if Nowhere back e =
+          absurd (omega (arith, ap (room (opposite way)) e, room-behind way n d (least .within), room-kept way n d, least .above))
 
 -- Going to a place keeps the content.
 pub content-to : (way : Direction) (place : Doc → Bool) (d : Doc) → content (to move way place d) ≡ content d

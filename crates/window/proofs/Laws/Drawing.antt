@@ -14,14 +14,10 @@ use Rattle.gap.specs.Rules.Doc.{times}
 use Rattle.gap.specs.Rules.Lines.{newline, Unbroken}
 use Rattle.gap.proofs.Laws.Sequence.{length-part}
 use Rattle.window.specs.Words.{Frame}
-use Rattle.window.specs.Wording.Painter.{Sheet, above, lineEnd, paint, finishPaint, RunEnd, Easel}
+use Rattle.window.specs.Wording.Painter.{Sheet, above, lineEnd, paint, finishPaint, Easel}
 use Rattle.window.proofs.Laws.Paint.{InRow, in-row, paint-append, paint-over, easel-on, easel-less}
 use Rattle.window.proofs.Laws.PaintedRun.{Run}
 use Rattle.window.proofs.Laws.DrawnCells.{Inside, row-end, run-row}
-
--- A run without newline ends before a newline, or where the text does.
-pub run-ends : {t : List ℕ} {i e : ℕ} → Unbroken t i e → (e < length t → getD t e 0 ≡ newline) → RunEnd t i e
-run-ends so-far stop = record { low = so-far .low; high = so-far .high; unbroken = so-far .bytes; stop = stop }
 
 -- A text from index i on, cut at a later index.
 split-at : (i e : ℕ) (t : List ℕ) → i ≤ e → drop i t ≡ midOf i (e - i) t ++ drop e t
@@ -66,14 +62,14 @@ module _ {f : Frame} {t : List ℕ} {first : Sheet} {i : ℕ} {p : Sheet} where
     inside = in-row f p (so-far .drawn .easel .long) (tests .0) (tests .1)
 
     -- The run from there on is drawn.
-    module _ {e : ℕ} (run : RunEnd t i e) where
+    module _ {e : ℕ} (run : Unbroken t i e) where
       size : length (midOf i (e - i) t) ≡ e - i
       unfolding part
       size = length-part i (e - i) t (omega (arith, run .low, run .high))
 
       unbroken : Run (midOf i (e - i) t)
       unfolding part
-      unbroken = run .unbroken
+      unbroken = run .bytes
 
       pub run-asks : (Run (midOf i (e - i) t)) × ((Easel f (length (midOf i (e - i) t)) p) × Inside f p)
       run-asks =

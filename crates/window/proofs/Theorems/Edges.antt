@@ -7,6 +7,7 @@ use Rattle.gap.specs.Rules.Doc.{move, delete, times, passed, removed, splice}
 use Rattle.gap.specs.Rules.Nearest.{nearest, distance}
 use Rattle.gap.specs.Rules.Lines.{newlines, sinceAfter, lines}
 use Rattle.gap.specs.Rules.Layout.{gapped, paired, ungap, unpair, soundGap, soundPair}
+use Rattle.gap.specs.Tables.Written.{markedAfter}
 use Rattle.editor.specs.Rules.Places.{lineBeginning, lineEnding, word, documentEnd, isAt}
 use Rattle.editor.specs.Rules.Keys.{soundKey, inserted, carried, function, recalled, onSide, quoted, withPattern, searched, found}
 use Rattle.editor.specs.Rules.Keys.{withReplacement, exchanged, substituted, replaced, pressed, fits, bounded, key}
@@ -14,7 +15,7 @@ use Rattle.editor.specs.Rules.Bytes.{quarter, sized, plainOf, lengthsOf, stores
 use Rattle.window.specs.Rules.Window.{virtualIn, rowCells, joined, window, visible, policy}
 use Rattle.window.specs.Rules.Rows.{firstRow, lastRow}
 use Rattle.window.specs.Rules.Core.{tabled, isSession, openedText, opened, shown, finished, keyed}
-use Rattle.window.specs.Tables.Table.{markedAfter, pressing, moving, outcome, holds, allHold, right, edges}
+use Rattle.window.specs.Tables.Table.{pressing, moving, outcome, holds, allHold, right, edges}
 
 pub edges-right : right edges ≡ true
 unfolding every sameBytes begins part zeros counted move delete times passed splice nearest distance newlines sinceAfter lines gapped paired

@@ -1,14 +1,19 @@
 -- The host's boundary: record, key and answer as numbers. (DECISIONS D1 to D4.)
-use Rattle.window.specs.Words.{_&&_, cond, ℕ, eqb, leb, Left, Right, Direction, Action, Move, Delete, Mode, Main, Quoted, Place}
-use Rattle.window.specs.Words.{Character, Word, LineBeginning, LineEnding, Document, Session, Answer, Key, Insert, Function, Recall}
-use Rattle.window.specs.Words.{Quote, Find, Replace}
+use Rattle.window.specs.Words.{Bool, true, _&&_, _||_, cond, ℕ, eqb, leb}
+use Rattle.window.specs.Words.{Left, Right, Direction, Action, Move, Delete, Mode, Main, Quoted}
+use Rattle.window.specs.Words.{Place, Character, Word, LineBeginning, LineEnding, Document}
+use Rattle.window.specs.Words.{Session, Answer, Key, Insert, Function, Recall, Quote, Find, Replace}
 use Rattle.editor.specs.Rules.Refusals.{SIZE, SESSION}
+use Rattle.editor.specs.Rules.Plain.{Plain}
+use Rattle.editor.specs.Rules.Bytes.{Stores}
 use Rattle.gap.specs.Rules.Numbers.{bit}
 use Rattle.window.specs.declared.Reply.{Reply}
 use Rattle.window.specs.declared.host.Record.{Record}
 use Rattle.window.specs.declared.host.Said.{Said}
 use Rattle.window.specs.declared.host.HostReply.{HostReply}
-use Rattle.window.specs.Rules.Core.{Lent, Called, refusal, tabled, opened, keyed}
+use Rattle.window.specs.Rules.Core.{Lent, Called, refusal, tabled, isSession, held, opened, keyed}
+
+-- ---- The record
 
 -- A mode is 0 or 1.
 abbrev pub modeOf : ℕ → Mode
@@ -55,6 +60,15 @@ recordFrom s =
       columns = s .frame .w;
     }
 
+-- Record and stores are a session: the mode is one, and the core's record is a session. What they hold is what it holds.
+abbrev pub isHostSession : Record → Stores → Bool
+isHostSession n b = leb (n .mode) 1 && isSession (sessionFrom n) b
+
+abbrev pub hostHeld : Record → Stores → Plain
+hostHeld n b = held (sessionFrom n) b
+
+-- ---- Keys
+
 -- A key is a kind and up to three numbers. What is no key becomes an insert of byte 0, which is refused with KEY in its order.
 abbrev pub none : Key
 none = Insert 0
@@ -88,7 +102,69 @@ keyFrom kind a b c =
     (cond (eqb kind 4) (findFrom a)
     (cond (eqb kind 5) Replace none)))))
 
--- The answer in numbers.
+-- The four numbers as one value.
+pub record KeyNumbers : Type 0 where
+  pub kind : ℕ
+  pub a : ℕ
+  pub b : ℕ
+  pub c : ℕ
+
+abbrev pub numbers : ℕ → ℕ → ℕ → ℕ → KeyNumbers
+numbers kind a b c = record { kind = kind; a = a; b = b; c = c }
+
+abbrev pub keyOf : KeyNumbers → Key
+keyOf x = keyFrom (x .kind) (x .a) (x .b) (x .c)
+
+-- Which numbers name a key: an insert's byte is at most 255; a function key's numbers are at most 1, 1 and 4; a search's is at most 1;
+-- and there is no kind above 5.
+abbrev pub names : KeyNumbers → Bool
+names x =
+    cond (eqb (x .kind) 0) (leb (x .a) 255)
+    (cond (eqb (x .kind) 1) (leb (x .a) 1 && (leb (x .b) 1 && leb (x .c) 4))
+    (cond (eqb (x .kind) 4) (leb (x .a) 1) (leb (x .kind) 5)))
+
+-- Those that are looked at: all of a function key's, the first of an insert's and of a search's, else the kind alone.
+abbrev pub lookedAt : KeyNumbers → KeyNumbers
+lookedAt x =
+    cond (eqb (x .kind) 1) x
+    (cond (eqb (x .kind) 0 || eqb (x .kind) 4) (numbers (x .kind) (x .a) 0 0) (numbers (x .kind) 0 0 0))
+
+-- The numbers of a key, with 0 where none is looked at.
+abbrev pub actionNumber : Action → ℕ
+actionNumber Move = 0
+actionNumber Delete = 1
+
+abbrev pub directionNumber : Direction → ℕ
+directionNumber Left = 0
+directionNumber Right = 1
+
+abbrev pub placeNumber : Place → ℕ
+placeNumber Character = 0
+placeNumber Word = 1
+placeNumber LineBeginning = 2
+placeNumber LineEnding = 3
+placeNumber Document = 4
+
+abbrev pub numbersOfKey : Key → KeyNumbers
+numbersOfKey (Insert b) = numbers 0 b 0 0
+numbersOfKey (Function action way place) = numbers 1 (actionNumber action) (directionNumber way) (placeNumber place)
+numbersOfKey Recall = numbers 2 0 0 0
+numbersOfKey Quote = numbers 3 0 0 0
+numbersOfKey (Find way) = numbers 4 (directionNumber way) 0 0
+numbersOfKey Replace = numbers 5 0 0 0
+
+-- A key that can be pressed: an insert is of a byte.
+abbrev pub ofByte : Key → Bool
+ofByte (Insert b) = leb b 255
+ofByte (Function action way place) = true
+ofByte Recall = true
+ofByte Quote = true
+ofByte (Find way) = true
+ofByte Replace = true
+
+-- ---- The answer
+
+-- The answer in numbers, and as it is read from them.
 abbrev pub saidOf : Answer → Said
 saidOf a =
     record {
@@ -101,6 +177,20 @@ saidOf a =
       row = a .row;
       column = a .column;
     }
+
+abbrev pub answerFrom : Said → Answer
+answerFrom said =
+    record {
+      code = said .code;
+      place = said .place;
+      report = record { steps = said .steps; bell = eqb (said .bell) 1 };
+      first = said .first;
+      last = said .last;
+      row = said .row;
+      column = said .column;
+    }
+
+-- ---- The calls
 
 -- What the host is given: the answer, the record and the stores.
 pub record Given : Type 0 where
@@ -121,11 +211,25 @@ givenOf o = record { said = saidOf (o .answer); back = recordFrom (o .session); 
 unfoldable pub hostOpened : ℕ → ℕ → ℕ → Lent → Given
 hostOpened n H W b = givenOf (opened n H W b)
 
--- A mode that is none makes the record no session: SESSION in its order, with the record back as it was.
+-- A refused opening: a record of zeros, and the stores as they were.
+abbrev pub zeroNumbers : Record
+zeroNumbers =
+    record { l = 0; r = 0; ql = 0; qr = 0; rl = 0; rr = 0; qrl = 0; qrr = 0; xl = 0; xr = 0; pl = 0; mode = 0; top = 0; left = 0; rows = 0; columns = 0 }
+
+abbrev pub hostUnopened : Lent → ℕ → ℕ → Given
+hostUnopened b code place = record { said = saidOf (refusal code place); back = zeroNumbers; lent = b }
+
+-- A refused key: record and stores as they were, number for number.
+abbrev pub hostTurnedDown : Record → Lent → ℕ → Given
+hostTurnedDown n b code = record { said = saidOf (refusal code 0); back = n; lent = b }
+
+-- A mode that is none makes the record no session: SESSION in its order.
 abbrev pub noMode : Record → Lent → Given
-noMode n b =
-    record { said = saidOf (refusal (cond (tabled (n .rows) (n .columns) b) SESSION SIZE) 0); back = n; lent = b }
+noMode n b = hostTurnedDown n b (cond (tabled (n .rows) (n .columns) b) SESSION SIZE)
 
 unfoldable pub hostKeyed : Record → ℕ → ℕ → ℕ → ℕ → Lent → Given
 hostKeyed n kind a b c lent =
     cond (leb (n .mode) 1) (givenOf (keyed (sessionFrom n) (keyFrom kind a b c) lent)) (noMode n lent)
+
+abbrev pub hostPressed : Record → KeyNumbers → Lent → Given
+hostPressed n x b = hostKeyed n (x .kind) (x .a) (x .b) (x .c) b

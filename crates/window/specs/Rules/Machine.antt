@@ -1,9 +1,11 @@
 -- A simple terminal as a machine over bytes, and a bench with such a terminal at the end of a line. (02, M-100: a simple terminal.)
 use mathlib.Core.Path.{_≡_}
+use mathlib.Core.Logic.{_≢_}
 use Prim.Native.Nat.{_≤_}
 use Rattle.window.specs.Words.{List, [], _∷_, Bool, _&&_, cond, ℕ, suc, _+_, _-_, _*_, eqb, leb, ltb, length, take, set, Key}
 use Rattle.gap.specs.Rules.Decimal.{digit, worth}
 use Rattle.gap.specs.Rules.Layout.{printable}
+use Rattle.editor.specs.Rules.Refusals.{ROOM}
 use Rattle.window.specs.Rules.Window.{virtual, rowOf, columnOf}
 use Rattle.window.specs.Rules.Core.{Lent, Called, opened, keyed}
 use Rattle.window.specs.Rules.Terminal.{View, picture, recordOf, storesWith}
@@ -112,6 +114,11 @@ unfoldable pub typedLine : List Key → Line → Line
 typedLine [] at = at
 typedLine (k ∷ ks) at = typedLine ks (struckLine k at)
 
+-- In a list of keys, the bytes have room in the buffer each time: the routine never answers ROOM.
+abbrev pub AllSent : List Key → Line → Type 0
+AllSent [] at = Unit {0}
+AllSent (k ∷ ks) at = (bytesAfter (keyed (at .called .session) k (at .called .lent)) (at .buffer) .code ≢ ROOM) × AllSent ks (struckLine k at)
+
 -- What it should show: the window of the plain document, with the cursor as a call reports it, its column plus 1, or W.
 abbrev pub showing : View → Machine
 showing v =
@@ -128,9 +135,8 @@ pub record Ready (H W : ℕ) (buffer : List ℕ) (m : Machine) : Type 0 where
   pub size : length (m .shows) ≡ H * W
   pub reading : m .reading ≡ cells
 
--- Record, stores and terminal all hold the view, and the buffer has room.
+-- Record, stores and terminal all hold the view.
 pub record OnLine (size : ℕ) (v : View) (at : Line) : Type 0 where
   pub session : at .called .session ≡ recordOf v
   pub lent : at .called .lent ≡ storesWith size v (picture v)
-  pub room : enough (v .frame .h) (v .frame .w) ≤ length (at .buffer)
   pub terminal : at .terminal ≡ showing v

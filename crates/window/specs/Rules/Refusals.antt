@@ -1,14 +1,16 @@
 -- The checks of each call, in order: theorems say with them when each number is given. (01, refusals: order; 02, M-100: refusals.)
 use Rattle.gap.specs.Rules.Checks.{Check, check}
-use Rattle.window.specs.Words.{List, [], _∷_, ℕ, leb, length, take, Key, Session}
+use Rattle.window.specs.Words.{List, [], _∷_, _&&_, ℕ, leb, length, take, Key, Session}
 use Rattle.gap.specs.Rules.Sequence.{every}
 use Rattle.gap.specs.Rules.Layout.{allowed, printable}
 use Rattle.editor.specs.Rules.Refusals.{SIZE, LONG, TEXT, SESSION, KEY, ROOM}
 use Rattle.editor.specs.Rules.Keys.{soundKey, pressed, finishedChecks}
 use Rattle.editor.specs.Rules.Bytes.{quarter}
+use Rattle.window.specs.declared.host.Record.{Record}
 use Rattle.window.specs.Rules.Core.{Lent, T, tabled, isSession, held}
 use Rattle.window.specs.Rules.Sequences.{sentScreen}
 use Rattle.window.specs.Rules.Sending.{sendable}
+use Rattle.window.specs.Rules.Host.{isHostSession, hostHeld, KeyNumbers, keyOf, names}
 
 -- The checks of opening, in order.
 abbrev pub openingChecks : ℕ → ℕ → ℕ → Lent → List Check
@@ -22,6 +24,14 @@ keyChecks s k b =
     ∷ check SESSION (isSession s (b .stores))
     ∷ check KEY (soundKey k)
     ∷ finishedChecks (T (b .stores)) quarter (pressed k (held s (b .stores)) .state)
+
+-- The checks of a key at the host's boundary, in order: a mode that is none is no session, and numbers that name no key are no sound key.
+abbrev pub hostKeyChecks : Record → KeyNumbers → Lent → List Check
+hostKeyChecks n x b =
+    check SIZE (tabled (n .rows) (n .columns) b)
+    ∷ check SESSION (isHostSession n (b .stores))
+    ∷ check KEY (names x && soundKey (keyOf x))
+    ∷ finishedChecks (T (b .stores)) quarter (pressed (keyOf x) (hostHeld n (b .stores)) .state)
 
 -- The checks of the routine for terminals, in order.
 abbrev pub sendChecks : ℕ → ℕ → ℕ → ℕ → ℕ → ℕ → List ℕ → List ℕ → List Check

@@ -1,23 +1,17 @@
 -- The edges that document 01 marks with P, as one table. Each row opens a text on bytes, brings the cursor to its mark by moves,
 -- presses the keys, and states facts about the last call. proofs/Theorems/Edges shows that the definitions give each of them.
-use Rattle.window.specs.Words.{List, [], _∷_, _++_, map, Bool, true, false, _&&_, cond, ℕ, zero, suc, _-_, _*_, eqb, length}
+use Rattle.window.specs.Words.{List, [], _∷_, _++_, map, Bool, true, false, _&&_, ℕ, zero, suc, _-_, _*_, eqb, length}
 use Rattle.window.specs.Words.{Left, Right, Move, Delete, Character, Word, LineBeginning, LineEnding, Document}
 use Rattle.window.specs.Words.{Key, Insert, Function, Recall, Quote, Find, Replace}
 use Prim.Native.String.{String}
 use Rattle.gap.specs.Rules.Sequence.{sameBytes, zeros}
 use Rattle.gap.specs.Rules.Strings.{bytes}
-use Rattle.gap.specs.Rules.Doc.{Doc, content}
+use Rattle.gap.specs.Rules.Doc.{content}
+use Rattle.gap.specs.Tables.Written.{marked, sameBool, isDoc}
 use Rattle.editor.specs.Rules.Bytes.{quarter}
+use Rattle.editor.specs.Tables.KeyExamples.{quoting}
 use Rattle.window.specs.Rules.Rows.{screenRow}
 use Rattle.window.specs.Rules.Core.{Called, held, opened, keyed}
-
--- A document written with `|` (124) at its cursor.
-unfoldable pub markedAfter : List ℕ → List ℕ → Doc
-markedAfter l [] = record { l = l; r = [] }
-markedAfter l (b ∷ s) = cond (eqb b 124) (record { l = l; r = s }) (markedAfter (l ++ (b ∷ [])) s)
-
-abbrev pub marked : String → Doc
-marked s = markedAfter [] (bytes s)
 
 -- What a row states of the last call.
 pub data Fact : Type 0 where
@@ -26,6 +20,7 @@ pub data Fact : Type 0 where
   Bell : Bool → Fact
   Text : String → Fact
   Offset : ℕ → Fact
+  Offsets : ℕ → ℕ → Fact
   Cursor : ℕ → ℕ → Fact
   Named : ℕ → ℕ → Fact
   Shows : ℕ → String → Fact
@@ -63,20 +58,13 @@ outcome e =
       screen = zeros (e .H * e .W);
     }))
 
-abbrev pub sameBool : Bool → Bool → Bool
-sameBool true b = b
-sameBool false true = false
-sameBool false false = true
-
-abbrev pub sameDoc : Doc → Doc → Bool
-sameDoc d e = sameBytes (d .l) (e .l) && sameBytes (d .r) (e .r)
-
 unfoldable pub holds : Called → Fact → Bool
 holds o (Code n) = eqb (o .answer .code) n
 holds o (Steps n) = eqb (o .answer .report .steps) n
 holds o (Bell b) = sameBool (o .answer .report .bell) b
-holds o (Text s) = sameDoc (held (o .session) (o .lent .stores) .main .text) (marked s)
+holds o (Text s) = isDoc (held (o .session) (o .lent .stores) .main .text) s
 holds o (Offset c) = eqb (o .session .frame .c) c
+holds o (Offsets r c) = eqb (o .session .frame .r) r && eqb (o .session .frame .c) c
 holds o (Cursor row column) = eqb (o .answer .row) row && eqb (o .answer .column) column
 holds o (Named first last) = eqb (o .answer .first) first && eqb (o .answer .last) last
 holds o (Shows i s) = sameBytes (screenRow (o .session .frame .w) i (o .lent .screen)) (bytes s)
@@ -90,10 +78,7 @@ unfoldable pub right : List Edge → Bool
 right [] = true
 right (e ∷ es) = allHold (outcome e) (e .facts) && right es
 
--- Keys as document 01 writes them: QUOTE, the letters, and the key that ends the quotation.
-abbrev pub quoting : String → Key → List Key
-quoting s k = Quote ∷ (map Insert (bytes s) ++ (k ∷ []))
-
+-- Keys of the edges.
 abbrev pub rightWord : Key
 rightWord = Function Move Right Word
 

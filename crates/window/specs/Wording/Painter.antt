@@ -1,11 +1,11 @@
 -- What the painter does, byte by byte: it writes the cells of the window in the screen's order, each once, and notes the rows in which
 -- a cell was another one before. That this gives the window and the named rows is proved in proofs/Laws/Painter.
 use Rattle.window.specs.Words.{List, [], _∷_, Bool, true, false, not, _&&_, _||_, cond, ℕ, _+_, _-_, _*_}
-use Rattle.window.specs.Words.{eqb, leb, ltb, length, take, getD, Frame}
+use Rattle.window.specs.Words.{eqb, leb, ltb, length, take, Frame}
 use mathlib.Core.Path.{_≡_}
 use Prim.Native.Nat.{min, _^_, _≤_, _<_}
 use lib.ListN.{replicate}
-use Rattle.gap.specs.Rules.Sequence.{every, sameBytes, part, patch}
+use Rattle.gap.specs.Rules.Sequence.{sameBytes, part, patch}
 use Rattle.gap.specs.Rules.Doc.{times}
 use Rattle.gap.specs.Rules.Lines.{newline, newlines, sinceAfter}
 use Rattle.window.specs.declared.Pen.{Pen}
@@ -138,10 +138,3 @@ pub record LineStart (t : List ℕ) (k at : ℕ) : Type 0 where
   pub within : at ≤ length t
   pub lines : newlines (take at t) + k ≡ newlines t
   pub start : (x : ℕ) → sinceAfter x (take at t) ≡ 0
-
--- Where a run without newline that starts at index i ends.
-pub record RunEnd (t : List ℕ) (i e : ℕ) : Type 0 where
-  pub low : i ≤ e
-  pub high : e ≤ length t
-  pub unbroken : every (λ b. not (eqb b newline)) (part i (e - i) t) ≡ true
-  pub stop : e < length t → getD t e 0 ≡ newline

@@ -1,0 +1,47 @@
+-- The definitions give each name, block and limit of document 01's bench program.
+use mathlib.Core.Path.{_≡_, refl}
+use mathlib.Core.List.{List, [], _++_, map}
+use Prim.Native.Nat.{ℕ, _≤_, _<_}
+use lib.ListN.{length}
+use borrow.Author.Tests.{le-leb, lt-leb}
+use Rattle.gap.specs.Rules.Sequence.{every, sameBytes, begins}
+use Rattle.gap.specs.Rules.Strings.{bytes}
+use Rattle.gap.specs.Rules.Nearest.{nearest}
+use Rattle.gap.specs.Rules.Decimal.{valueAfter, isNumber, numberOf, digitsIn, decimal}
+use Rattle.gap.specs.Rules.Fields.{entry}
+use Rattle.gap.specs.Tables.Sentence.{allOf, broken, itself}
+use Rattle.bench.specs.Words.{Header, Headed, Broken, Named, Unnamed}
+use Rattle.bench.specs.Rules.Names.{nameOf, combinations, functionOf, functionNamed, keyNamed}
+use Rattle.bench.specs.Rules.Script.{headingOf}
+use Rattle.bench.specs.Rules.Print.{rowsOf, acceptedBlock, refusedBlock, block, scriptLine}
+use Rattle.bench.specs.Rules.Run.{unlessLarge, beginning}
+use Rattle.bench.specs.Tables.KeyNames.{functionNames, otherNames, noNames}
+use Rattle.bench.specs.Tables.Blocks.{blockPins}
+
+-- 01, the bench program: keys. Each of these words names its key, and those of the second list name none.
+pub names-pinned : map (λ n. keyNamed (bytes (n .name))) (functionNames ++ otherNames) ≡ map (λ n. Named (n .key)) (functionNames ++ otherNames)
+unfolding every sameBytes begins bytes nearest valueAfter isNumber numberOf combinations functionNamed keyNamed
+names-pinned = refl
+
+pub no-names-pinned : map (λ name. keyNamed (bytes name)) noNames ≡ map (λ name. Unnamed) noNames
+unfolding every sameBytes begins bytes nearest valueAfter isNumber numberOf combinations functionNamed keyNamed
+no-names-pinned = refl
+
+-- 01, plain editor: all 20 stand in the table, in this order.
+pub combinations-pinned : (map functionOf combinations ≡ map (λ n. n .key) functionNames) × (map nameOf combinations ≡ map (λ n. bytes (n .name)) functionNames)
+unfolding bytes combinations
+combinations-pinned = (refl, refl)
+
+-- 01, the bench program: blocks.
+pub blocks-pinned : broken itself blockPins ≡ []
+unfolding sameBytes bytes digitsIn decimal entry rowsOf acceptedBlock refusedBlock block scriptLine allOf broken
+blocks-pinned = refl
+
+-- 01, the bench program: input is at most 8,192 bytes, and store at most 4,096.
+pub input-limit : (input : List ℕ)
+    → (length input ≤ 8192 → beginning input ≡ unlessLarge (headingOf input)) × (8192 < length input → beginning input ≡ Broken 0)
+unfolding beginning
+input-limit input = (λ short. rw (le-leb (length input) 8192 short), λ long. rw (lt-leb (length input) 8192 long))
+
+pub store-limit : (h : Header) → (h .store ≤ 4096 → unlessLarge (Headed h) ≡ Headed h) × (4096 < h .store → unlessLarge (Headed h) ≡ Broken 0)
+store-limit h = (λ small. rw (le-leb (h .store) 4096 small), λ large. rw (lt-leb (h .store) 4096 large))

@@ -1,0 +1,5 @@
+-- Worked examples, computed through the definitions.
+pub mod KeyExamples
+pub mod KeyPins
+pub mod QuotationPins
+pub mod SessionPins

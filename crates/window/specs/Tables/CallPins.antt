@@ -1,0 +1,164 @@
+-- What document 01 says of opening, refusals and sessions, on records and stores of any kind.
+use mathlib.Core.List.{map}
+use Prim.Native.String.{String}
+use lib.ListN.{replicate}
+use Rattle.window.specs.Words.{List, [], _∷_, _++_, Bool, true, false, _&&_, ℕ, _-_, eqb, length, Right, Move, Character}
+use Rattle.window.specs.Words.{Key, Insert, Function, Recall, Quote, Mode, Main, Quoted, Sizes, Lengths, Session}
+use Rattle.gap.specs.Rules.Sequence.{sameBytes, zeros}
+use Rattle.gap.specs.Rules.Strings.{bytes}
+use Rattle.gap.specs.Tables.Sentence.{Sentence, sentence}
+use Rattle.gap.specs.Tables.Written.{stored, isBytes, isStore, sameBool}
+use Rattle.editor.specs.Tables.KeyExamples.{sameMode}
+use Rattle.editor.specs.Tables.SessionPins.{sizes, lengths, areLengths}
+use Rattle.window.specs.Rules.Core.{Lent, Called, opened, keyed}
+
+-- ---- Sizes
+
+-- Four stores of zeros, and a record without any text.
+abbrev pub blank : ℕ → ℕ → ℕ → ℕ → Lent
+blank text recall side screen =
+    record { stores = record { text = zeros text; recall = zeros recall; side = zeros side }; screen = zeros screen }
+
+abbrev pub recordIn : ℕ → ℕ → ℕ → ℕ → Lengths → Session
+recordIn r c H W n = record { lengths = n; frame = record { r = r; c = c; h = H; w = W } }
+
+abbrev pub nothing : Lengths
+nothing = lengths (sizes 0 0 0 0) (sizes 0 0 0 0) 0 0 0 Main
+
+-- Opening and a key both answer this code: H and W, then the lengths of text, recall, side and screen.
+abbrev pub both : ℕ → ℕ → ℕ → ℕ → ℕ → ℕ → ℕ → Bool
+both H W text recall side screen code =
+    eqb (opened 0 H W (blank text recall side screen) .answer .code) code
+    && eqb (keyed (recordIn 0 0 H W nothing) Quote (blank text recall side screen) .answer .code) code
+
+abbrev pub sizePins : List (Sentence Bool)
+sizePins =
+    sentence "text 1 byte at least; recall the same; side 1,024; screen H times W"
+    (both 2 3 4 4 1024 6 0
+    ∷ both 2 3 1 1 1024 6 0
+    ∷ both 2 3 0 0 1024 6 1
+    ∷ both 2 3 4 3 1024 6 1
+    ∷ both 2 3 4 5 1024 6 1
+    ∷ both 2 3 4 4 1023 6 1
+    ∷ both 2 3 4 4 1025 6 1
+    ∷ both 2 3 4 4 1024 5 1
+    ∷ both 2 3 4 4 1024 7 1
+    ∷ [])
+    ∷ sentence "H is 1 to 64, W is 1 to 256"
+    (both 0 3 4 4 1024 0 1
+    ∷ both 64 1 4 4 1024 64 0
+    ∷ both 65 1 4 4 1024 65 1
+    ∷ both 3 0 4 4 1024 0 1
+    ∷ both 1 256 4 4 1024 256 0
+    ∷ both 1 257 4 4 1024 257 1
+    ∷ [])
+    ∷ []
+
+-- ---- Opening
+
+-- The text store as written, in stores of its length and a screen of 2 rows and 3 columns, all of them full of `x` (120).
+abbrev pub used : List ℕ → Lent
+used text =
+    record {
+      stores = record { text = text; recall = replicate (length text) 120; side = replicate 1024 120 };
+      screen = replicate 6 120;
+    }
+
+abbrev pub answers : ℕ → ℕ → Called → Bool
+answers code place o = eqb (o .answer .code) code && eqb (o .answer .place) place
+
+abbrev pub openedUsed : Called
+openedUsed = opened 4 2 3 (used (bytes "ab\ncxyz"))
+
+abbrev pub openingPins : List (Sentence Bool)
+openingPins =
+    sentence "LONG: n exceeds T; place is 0"
+    (answers 0 0 (opened 3 2 3 (used (bytes "abc"))) ∷ answers 2 0 (opened 4 2 3 (used (bytes "abc"))) ∷ [])
+    ∷ sentence "TEXT: one of the first n bytes is not allowed; place is the first such index"
+    (answers 3 0 (opened 3 2 3 (used (9 ∷ 97 ∷ 9 ∷ [])))
+    ∷ answers 3 1 (opened 3 2 3 (used (97 ∷ 127 ∷ 0 ∷ [])))
+    ∷ answers 3 2 (opened 3 2 3 (used (97 ∷ 10 ∷ 31 ∷ [])))
+    ∷ answers 0 0 (opened 2 2 3 (used (97 ∷ 10 ∷ 31 ∷ [])))
+    ∷ [])
+    ∷ sentence "opening checks SIZE, LONG, TEXT; the first that applies is given"
+    (answers 1 0 (opened 4 0 3 (used (9 ∷ []))) ∷ answers 2 0 (opened 4 2 3 (used (9 ∷ []))) ∷ answers 1 0 (opened 1 0 3 (used (9 ∷ []))) ∷ [])
+    ∷ sentence "opening takes the first n bytes, puts the cursor at the beginning and empties everything else"
+    (isStore (openedUsed .lent .stores .text) "___ab\nc"
+    ∷ isStore (openedUsed .lent .stores .recall) "_______"
+    ∷ sameBytes (openedUsed .lent .stores .side) (zeros 1024)
+    ∷ areLengths (openedUsed .session .lengths) (lengths (sizes 0 4 0 0) (sizes 0 0 0 0) 0 0 0 Main)
+    ∷ [])
+    ∷ sentence "it sets r = c = 0, paints the screen and names rows 1 to H"
+    (sameBytes (openedUsed .session .frame .r ∷ openedUsed .session .frame .c ∷ openedUsed .session .frame .h ∷ openedUsed .session .frame .w ∷ [])
+    (0 ∷ 0 ∷ 2 ∷ 3 ∷ [])
+    ∷ isBytes (openedUsed .lent .screen) "ab c  "
+    ∷ answers 0 0 openedUsed
+    ∷ sameBytes (openedUsed .answer .report .steps ∷ openedUsed .answer .first ∷ openedUsed .answer .last ∷ openedUsed .answer .row ∷ openedUsed .answer .column ∷ [])
+    (0 ∷ 1 ∷ 2 ∷ 1 ∷ 0 ∷ [])
+    ∷ sameBool (openedUsed .answer .report .bell) false
+    ∷ eqb (opened 1 2 3 (record { stores = used (bytes "a") .stores; screen = bytes "a     " }) .answer .last) 2
+    ∷ [])
+    ∷ []
+
+-- ---- A key
+
+-- `ab|c` in the second of three lines, seen through 2 rows and 3 columns with offsets r and c; any screen may be lent.
+abbrev pub linesText : List ℕ
+linesText = stored "x\nab__c\ny"
+
+abbrev pub linesIn : ℕ → ℕ → Session
+linesIn r c = recordIn r c 2 3 (lengths (sizes 4 3 0 0) (sizes 0 0 0 0) 0 0 0 Main)
+
+abbrev pub linesLent : List ℕ → Lent
+linesLent screen = record { stores = record { text = linesText; recall = zeros 9; side = zeros 1024 }; screen = screen }
+
+-- A key that changes nothing of the text: where the cursor is visible it is accepted.
+abbrev pub sees : ℕ → ℕ → ℕ → Bool
+sees r c code = answers code 0 (keyed (linesIn r c) Recall (linesLent (zeros 6)))
+
+abbrev pub namesRows : String → ℕ → ℕ → Bool
+namesRows screen first last =
+    let o = keyed (linesIn 0 0) Recall (linesLent (bytes screen)) in
+    (eqb (o .answer .first) first && eqb (o .answer .last) last) && isBytes (o .lent .screen) "x  abc"
+
+-- A quotation of so many letters in QUOTED, with a recall text of as many.
+abbrev pub quotedIn : ℕ → Session
+quotedIn n = recordIn 0 0 2 256 (lengths (sizes 0 0 0 0) (sizes 0 n 0 0) 0 0 0 Quoted)
+
+abbrev pub quotedLent : ℕ → Lent
+quotedLent n =
+    record {
+      stores = record { text = zeros 1; recall = zeros 1; side = zeros (256 - n) ++ (replicate n 97 ++ zeros 768) };
+      screen = zeros 512;
+    }
+
+abbrev pub quotes : ℕ → Key → ℕ → Bool
+quotes n k code = answers code 0 (keyed (quotedIn n) k (quotedLent n))
+
+abbrev pub callPins : List (Sentence Bool)
+callPins =
+    sentence "the cursor is visible exactly when r < row <= r + H and c <= column <= c + W; else SESSION"
+    (sees 0 0 0
+    ∷ sees 1 0 0
+    ∷ sees 2 0 4
+    ∷ sees 0 1 0
+    ∷ sees 0 2 0
+    ∷ sees 0 3 4
+    ∷ answers 4 0 (keyed (recordIn 0 0 1 6 (linesIn 0 0 .lengths)) Recall (linesLent (zeros 6)))
+    ∷ answers 0 0 (keyed (recordIn 0 0 3 2 (linesIn 0 0 .lengths)) Recall (linesLent (zeros 6)))
+    ∷ answers 4 0 (keyed (recordIn 0 0 6 1 (linesIn 0 0 .lengths)) Recall (linesLent (zeros 6)))
+    ∷ [])
+    ∷ sentence "a key checks SIZE, SESSION, KEY, FULL; the first that applies is given"
+    (answers 1 0 (keyed (linesIn 2 0) (Insert 9) (linesLent (zeros 5)))
+    ∷ answers 4 0 (keyed (linesIn 2 0) (Insert 9) (linesLent (zeros 6)))
+    ∷ answers 5 0 (keyed (linesIn 0 0) (Insert 9) (linesLent (zeros 6)))
+    ∷ [])
+    ∷ sentence "SESSION: each part of the record and of the stores is looked at"
+    (answers 4 0 (keyed (recordIn 0 0 2 3 (lengths (sizes 4 3 0 0) (sizes 0 0 0 0) 0 0 1 Main)) Recall (linesLent (zeros 6)))
+    ∷ answers 4 0 (keyed (recordIn 0 0 2 3 (lengths (sizes 4 2 0 0) (sizes 0 0 0 0) 0 0 0 Main)) Recall (linesLent (zeros 6)))
+    ∷ [])
+    ∷ sentence "the named rows are those at which the lent screen differed, whatever it showed"
+    (namesRows "x  abc" 0 0 ∷ namesRows "x. abc" 1 1 ∷ namesRows "x  .bc" 2 2 ∷ namesRows "x ..bc" 1 2 ∷ [])
+    ∷ sentence "FULL: the quotation would exceed 256"
+    (quotes 255 (Insert 98) 0 ∷ quotes 256 (Insert 98) 6 ∷ quotes 256 (Insert 9) 5 ∷ quotes 256 (Function Move Right Character) 0 ∷ [])
+    ∷ []
