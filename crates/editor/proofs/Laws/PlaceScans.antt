@@ -68,19 +68,15 @@ module _ (t : List ℕ) (p : ℕ) where
   pub right-before : p < length t → neighbourOf (getD t p 0) ≡ rightOf (cutAt p t)
   right-before more = sym (ap firstNeighbour (drop-cons t p 0 more))
 
--- A byte's kind by the tests of the code, and the decision for a pair that it has found out.
-pub byte-space : (b : ℕ) → b ≡ 32 → Space ≡ neighbourOf b
-byte-space b e = rw e
+-- What a byte is, by the tests of the code.
+pub byte-space : {b : ℕ} → b ≡ 32 → Space ≡ neighbourOf b
+byte-space e = rw e
 
-pub byte-newline : (b : ℕ) → b ≡ 10 → Newline ≡ neighbourOf b
-byte-newline b e = rw e
+pub byte-newline : {b : ℕ} → b ≡ 10 → Newline ≡ neighbourOf b
+byte-newline e = rw e
 
-pub byte-other : (b : ℕ) → (b ≡ 32 → ⊥) → (b ≡ 10 → ⊥) → Other ≡ neighbourOf b
-byte-other b no-space no-newline = sym (rw (ne-eqb _ _ no-space, ne-eqb _ _ no-newline))
-
-pub pair-known : {left known-left right known-right : Neighbour} {ok : Bool} → left ≡ known-left → right ≡ known-right
-    → ok ≡ wordBetween known-left known-right → ok ≡ wordBetween left right
-pair-known p q e = e ∙ sym (ap₂ wordBetween p q)
+pub byte-other : {b : ℕ} → (b ≡ 32 → ⊥) → (b ≡ 10 → ⊥) → Other ≡ neighbourOf b
+byte-other no-space no-newline = sym (rw (ne-eqb _ _ no-space, ne-eqb _ _ no-newline))
 
 -- A document is at its end where there is room for less than one move; place p of a text has room for p moves to the left.
 empty-short : (s : List ℕ) → isEmpty s ≡ ltb (length s) 1

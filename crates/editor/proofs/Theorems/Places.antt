@@ -118,10 +118,10 @@ begins-right (start-newline t) = refl
 begins-right (start-other b t no-space no-newline) = other-byte b no-space no-newline
 
 ends-line : {l : List ℕ} {left : Neighbour} → EndsIn l left → emptyOr isNewline (lastOf l) ≡ lineEnds left
-ends-line ends = line-seen _ ∙ ap lineEnds (ends-left ends)
+ends-line {l = l} ends = line-seen (lastOf l) ∙ ap lineEnds (ends-left ends)
 
 begins-line : {r : List ℕ} {right : Neighbour} → BeginsWith r right → emptyOr isNewline r ≡ lineEnds right
-begins-line begins = line-seen _ ∙ ap lineEnds (begins-right begins)
+begins-line {r = r} begins = line-seen r ∙ ap lineEnds (begins-right begins)
 
 -- Of the sixteen pairs each decides, whatever else the document holds.
 pub word-table : (d : Doc) {left right : Neighbour} → EndsIn (d .l) left → BeginsWith (d .r) right → word d ≡ wordBetween left right
@@ -190,7 +190,7 @@ module _ (d : Doc) where
   from-pair Other Other ends begins e = clash e refl
 
   at-beginning : AtBeginning d → word d ≡ true
-  at-beginning at = word-sentence d ∙ or-right _ (line-beginning-place d .1 at)
+  at-beginning at = word-sentence d ∙ or-right (emptyOr blank (lastOf (d .l)) && emptyOr (λ b. not (blank b)) (d .r)) (line-beginning-place d .1 at)
 
   between : BeforeWord d → word d ≡ true
   between (inl ends, behind) = at-beginning (inl ends)

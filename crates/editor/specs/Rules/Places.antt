@@ -9,10 +9,6 @@ use Rattle.gap.specs.Rules.Lines.{newline}
 abbrev pub isNewline : ℕ → Bool
 isNewline b = eqb b newline
 
--- What separates words.
-abbrev pub blank : ℕ → Bool
-blank b = eqb b 32 || isNewline b
-
 -- There is no byte here, or the first one passes.
 abbrev pub emptyOr : (ℕ → Bool) → List ℕ → Bool
 emptyOr test [] = true
