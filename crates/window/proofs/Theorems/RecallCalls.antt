@@ -81,7 +81,8 @@ module _ (s : Session) (b : Lent) (way : Direction) (place : Place) (o : Called)
       let restores = recall-restores size quarter way place start (deleted .did) (deleted .plain) (sound s b Delete way place o promise accepts)
       (subst (λ r. 1 ≤ r .steps) (deleted .report) some) in
       let said = ap₂ (λ t p. key t quarter Recall p) (same-size s b Delete way place o promise accepts) (deleted .holds) ∙ restores in
-      let (fit, ok) = (deleted .follows .fit, deleted .follows .ok) in (
+      let fit = deleted .follows .fit in
+      let ok = deleted .follows .ok in (
         ap (λ o. o .answer .code) (recalls ∙ (session-keyed (o .session) Recall (o .lent) fit ok ∙ ap (finished (o .session) (o .lent)) said)),
         key-holds (o .session) Recall (o .lent) next recalls fit ok
             ∙ (ap (after between) said ∙ ap (λ p. withRecall (sideOf (start .mode) p .recall) start) (sym (deleted .holds))),
@@ -99,13 +100,13 @@ module _ (s : Session) (b : Lent) (way : Direction) (place : Place) (o : Called)
     -- Refused exactly when the finished text would not fit, else accepted.
     pub older-full : (next .answer .code ≡ FULL) ↔ Exceeds size quarter (recallPutIn start)
     older-full = (
-      λ e. transport same-exceeding (does .full .0 e .1 .1),
+      λ e. transport same-exceeding (does .full .0 e .2),
       λ over. does .full .1 (deleted .follows, recall-sound, transport (sym same-exceeding) over),
     )
 
     pub older-accepted : (next .answer .code ≡ 0) ↔ (¬ Exceeds size quarter (recallPutIn start))
     older-accepted = (
-      λ e over. does .accepted .0 e .1 .1 (transport (sym same-exceeding) over),
+      λ e over. does .accepted .0 e .2 (transport (sym same-exceeding) over),
       λ short. does .accepted .1 (deleted .follows, recall-sound, λ over. short (transport same-exceeding over)),
     )
 
