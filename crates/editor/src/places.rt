@@ -10,7 +10,7 @@ ghost use Prim.Native.Nat.{ℕ, _+_, _≤_};
 ghost use lib.ListN.{length, take, drop};
 ghost use Rattle.gap.specs.Rules.Nearest.{distance};
 ghost use Rattle.gap.specs.Rules.Layout.{ungap};
-ghost use Rattle.editor.specs.Rules.Places.{lineBeginning, lineEnding, neighbourOf, leftOf, rightOf, wordBetween, word, isAt};
+ghost use Rattle.editor.specs.Rules.Places.{lineBeginning, lineEnding, neighbourOf, leftOf, rightOf, word, isAt};
 ghost use Rattle.editor.specs.Wording.Promise.{wholeOf};
 ghost use Rattle.editor.specs.Wording.Searches.{facing};
 
@@ -71,44 +71,38 @@ fn right_of(t: &[u8], p: usize) -> Neighbour
     neighbour(t[p])
 }
 
-// The word rule, one decision for each pair.
-fn word_between(left: Neighbour, right: Neighbour) -> bool
-    ensures { λ ok. ⌜ ok ≡ wordBetween left right ⌝ }
+// Place p of a text is a word place: one decision for each pair. The right side is asked for where the left one is known, so that inside a
+// word, where no place is one, a single byte is read.
+pub fn word_at(t: &[u8], p: usize) -> bool
+    requires { ⌜ p ≤ length (now t) ⌝ }
+    ensures { λ ok. ⌜ ok ≡ word (record { l = take p (now (t .entry)); r = drop p (now (t .entry)) }) ⌝ }
 {
-    match left {
-        Neighbour::Nothing => match right {
+    match left_of(t, p) {
+        Neighbour::Nothing => match right_of(t, p) {
             Neighbour::Nothing => true,
             Neighbour::Space => true,
             Neighbour::Newline => true,
             Neighbour::Other => true,
         },
-        Neighbour::Space => match right {
+        Neighbour::Space => match right_of(t, p) {
             Neighbour::Nothing => true,
             Neighbour::Space => false,
             Neighbour::Newline => false,
             Neighbour::Other => true,
         },
-        Neighbour::Newline => match right {
+        Neighbour::Newline => match right_of(t, p) {
             Neighbour::Nothing => true,
             Neighbour::Space => true,
             Neighbour::Newline => true,
             Neighbour::Other => true,
         },
-        Neighbour::Other => match right {
+        Neighbour::Other => match right_of(t, p) {
             Neighbour::Nothing => false,
             Neighbour::Space => false,
             Neighbour::Newline => false,
             Neighbour::Other => false,
         },
     }
-}
-
-// Place p of a text is a word place.
-pub fn word_at(t: &[u8], p: usize) -> bool
-    requires { ⌜ p ≤ length (now t) ⌝ }
-    ensures { λ ok. ⌜ ok ≡ word (record { l = take p (now (t .entry)); r = drop p (now (t .entry)) }) ⌝ }
-{
-    word_between(left_of(t, p), right_of(t, p))
 }
 
 // Place p of a text is such a place, for the direction.

@@ -78,6 +78,12 @@ byte-newline e = rw e
 pub byte-other : {b : ℕ} → (b ≡ 32 → ⊥) → (b ≡ 10 → ⊥) → Other ≡ neighbourOf b
 byte-other no-space no-newline = sym (rw (ne-eqb _ _ no-space, ne-eqb _ _ no-newline))
 
+-- The decision for a pair of neighbours that the code has found out.
+pub word-known : (d : Doc) {left right known-left known-right : Neighbour} {ok : Bool} → left ≡ leftOf d → right ≡ rightOf d
+    → left ≡ known-left → right ≡ known-right → ok ≡ wordBetween known-left known-right → ok ≡ word d
+unfolding word
+word-known d left right known-left known-right e = e ∙ ap₂ wordBetween (sym known-left ∙ left) (sym known-right ∙ right)
+
 -- A document is at its end where there is room for less than one move; place p of a text has room for p moves to the left.
 empty-short : (s : List ℕ) → isEmpty s ≡ ltb (length s) 1
 empty-short [] = refl
