@@ -25,35 +25,38 @@ use Rattle.editor.specs.Tables.QuotationPins.{quotationPins, searchPins,
 use Rattle.editor.specs.Tables.SessionPins.{layoutPins, sessionPins}
 
 pub places-pinned : broken onPlain placePins ≡ []
-unfolding sameBytes bytes move delete times nearest distance passed withLines passageTo newlines allOf broken markedAfter lineBeginning lineEnding word documentEnd isAt soundKey
-    carried function onSide pressed fits bounded key quarter states statesAll seeing onPlain
+unfolding sameBytes bytes move delete times nearest distance passed withLines passageTo newlines allOf broken markedAfter lineBeginning
+    lineEnding word documentEnd isAt soundKey carried function onSide pressed fits bounded key quarter states statesAll seeing onPlain
 places-pinned = refl
 
 pub edits-pinned : broken onPlain editPins ≡ []
-unfolding sameBytes bytes move delete times passed removed splice nearest distance withLines passageTo newlines allOf broken markedAfter lineBeginning lineEnding word
-    documentEnd isAt soundKey inserted carried function recalled onSide quoted pressed fits bounded key quarter states statesAll seeing onPlain
+unfolding sameBytes bytes move delete times passed removed splice nearest distance withLines passageTo newlines allOf broken markedAfter
+    lineBeginning lineEnding word documentEnd isAt soundKey inserted carried function recalled onSide quoted pressed fits bounded key
+    quarter states statesAll seeing onPlain
 edits-pinned = refl
 
 pub quotations-pinned : broken onPlain quotationPins ≡ []
-unfolding sameBytes bytes move delete times passed removed splice nearest distance withLines passageTo newlines allOf broken markedAfter lineBeginning word isAt soundKey
-    inserted carried function recalled onSide quoted pressed fits bounded key quarter states statesAll seeing onPlain
+unfolding sameBytes bytes move delete times passed removed splice nearest distance withLines passageTo newlines allOf broken markedAfter
+    lineBeginning word isAt soundKey inserted carried function recalled onSide quoted pressed fits bounded key quarter states statesAll
+    seeing onPlain
 quotations-pinned = refl
 
 pub searches-pinned : broken onPlain searchPins ≡ []
-unfolding sameBytes begins bytes move delete times passed removed splice nearest distance withLines passageTo newlines allOf broken markedAfter isAt soundKey inserted carried
-    function onSide quoted withPattern searched found withReplacement exchanged substituted replaced pressed fits bounded key quarter states
-    statesAll seeing onPlain
+unfolding sameBytes begins bytes move delete times passed removed splice nearest distance withLines passageTo newlines allOf broken
+    markedAfter isAt soundKey inserted carried function onSide quoted withPattern searched found withReplacement exchanged substituted
+    replaced pressed fits bounded key quarter states statesAll seeing onPlain
 searches-pinned = refl
 
 pub replacements-pinned : broken onPlain replacePins ≡ []
-unfolding sameBytes begins bytes move delete times passed removed splice nearest distance withLines passageTo newlines allOf broken markedAfter isAt soundKey inserted carried
-    function onSide quoted withPattern searched found withReplacement exchanged substituted replaced pressed fits bounded key quarter states
-    statesAll seeing onPlain
+unfolding sameBytes begins bytes move delete times passed removed splice nearest distance withLines passageTo newlines allOf broken
+    markedAfter isAt soundKey inserted carried function onSide quoted withPattern searched found withReplacement exchanged substituted
+    replaced pressed fits bounded key quarter states statesAll seeing onPlain
 replacements-pinned = refl
 
 pub layouts-pinned : broken itself layoutPins ≡ []
-unfolding sameBytes part zeros bytes move times splice nearest distance passed withLines passageTo newlines gapped paired ungap unpair allOf broken markedAfter storedAs isAt soundKey
-    inserted carried function onSide quoted pressed fits bounded key keys quarter sized plainOf lengthsOf storesOf
+unfolding sameBytes part zeros bytes move times splice nearest distance passed withLines passageTo newlines gapped paired ungap unpair allOf
+    broken markedAfter storedAs isAt soundKey inserted carried function onSide quoted pressed fits bounded key keys quarter sized plainOf
+    lengthsOf storesOf
 layouts-pinned = refl
 
 pub sessions-pinned : broken itself sessionPins ≡ []

@@ -156,7 +156,8 @@ taken = keys 1 1 (Function Delete Right Character ∷ []) (opening (97 ∷ []))
 pub restores-not-always : ¬ ((T Q : ℕ) (way : Direction) (place : Place) (p : Plain) (did : Did Plain) → SoundPlain T Q p
     → key T Q (Function Delete way place) p ≡ done did
     → key T Q Recall (did .state) ≡ done (reporting quiet (withRecall (sideOf (p .mode) (did .state) .recall) p)))
-unfolding every move delete times passed removed splice nearest distance newlines withLines passageTo isAt soundKey carried function recalled onSide pressed fits bounded key keys
+unfolding every move delete times passed removed splice nearest distance newlines withLines passageTo isAt soundKey carried function
+    recalled onSide pressed fits bounded key keys
 restores-not-always claim =
     let sound = keys-keep 1 1 (Function Delete Right Character ∷ []) (opening (97 ∷ [])) (opening-sound 1 1 1 (97 ∷ []) (omega arith) refl) in
     omega (arith, ap (λ o. length (content (after taken o .main .text))) (claim 1 1 Left Character taken (reporting rang taken) sound refl))

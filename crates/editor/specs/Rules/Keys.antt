@@ -44,9 +44,9 @@ soundKey Replace = true
 unfoldable pub inserted : ℕ → Side → Did Side
 inserted b s = reporting quiet (record { text = splice 0 0 (record { l = b ∷ []; r = [] }) (s .text); recall = s .recall })
 
--- A function key at its distance: that many single steps, reported with the newlines that they pass. A deletion leaves what it took as recall text; a move leaves the recall text
--- alone. Nowhere rings, and text and recall text stay. (01, plain editor: distance, recall text. 02, M-103: with the bell, in place of
--- 01's empty pair. DECISIONS B4, B30.)
+-- A function key at its distance: that many single steps, reported with the newlines that they pass. A deletion leaves what it took as recall
+-- text; a move leaves the recall text alone. Nowhere rings, and text and recall text stay. (01, plain editor: distance, recall text. 02, M-103:
+-- with the bell, in place of 01's empty pair; M-104: lines. DECISIONS B4, B30.)
 unfoldable pub carried : Action → Direction → Passage → Side → Did Side
 carried Move way (Reached n lines) s = reporting (went n lines) (record { text = times (move way) n (s .text); recall = s .recall })
 carried Move way Nowhere s = reporting rang s

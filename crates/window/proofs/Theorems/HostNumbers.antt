@@ -33,9 +33,9 @@ names-numbered = (refl, (refl, refl))
 -- What calls answer and hand back, and how a record that is no session is refused: SIZE, SESSION, KEY, and the record back as it was.
 pub calls-numbered : (map lastReply callRows ≡ map (λ row. row .reply) callRows)
     × (map refusedReply refusedRows ≡ map (λ row. record { said = said (row .code) 0 0 0 0 0 0 0 0; back = row .handed }) refusedRows)
-unfolding every sameBytes begins part zeros counted move delete times passed splice nearest distance withLines passageTo newlines sinceAfter lines gapped paired
-    ungap unpair soundGap soundPair lineBeginning lineEnding word documentEnd isAt soundKey inserted removed carried function recalled
-    onSide quoted withPattern searched found withReplacement exchanged substituted replaced pressed fits bounded key quarter sized plainOf
-    lengthsOf storesOf editorOk virtualIn rowCells joined window visible policy firstRow lastRow tabled isSession openedText opened shown
-    finished keyed bytes keyFrom hostOpened hostKeyed pressedOn lastReply refusedReply
+unfolding every sameBytes begins part zeros counted move delete times passed splice nearest distance withLines passageTo newlines sinceAfter
+    lines gapped paired ungap unpair soundGap soundPair lineBeginning lineEnding word documentEnd isAt soundKey inserted removed carried
+    function recalled onSide quoted withPattern searched found withReplacement exchanged substituted replaced pressed fits bounded key
+    quarter sized plainOf lengthsOf storesOf editorOk virtualIn rowCells joined window visible policy firstRow lastRow tabled isSession
+    openedText opened shown finished keyed bytes keyFrom hostOpened hostKeyed pressedOn lastReply refusedReply
 calls-numbered = (refl, refl)

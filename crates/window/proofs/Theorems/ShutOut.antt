@@ -46,10 +46,10 @@ computed =
     ∷ p0 .session .lengths .main .l ∷ p1 .session .lengths .main .l ∷ p1 .answer .first ∷ []
 
 numbers : sameBytes computed (0 ∷ 1 ∷ 5 ∷ 3 ∷ 4 ∷ 0 ∷ []) ≡ true
-unfolding computed p0 p1 p2 every sameBytes part zeros counted bytes move times nearest distance passed withLines passageTo newlines sinceAfter lines gapped paired ungap
-    unpair soundGap soundPair lineBeginning word isAt soundKey carried function onSide pressed fits bounded key quarter sized plainOf lengthsOf
-    storesOf editorOk virtualIn rowCells joined window visible policy firstRow lastRow tabled isSession openedText opened shown finished keyed
-    markedAfter pressing moving outcome
+unfolding computed p0 p1 p2 every sameBytes part zeros counted bytes move times nearest distance passed withLines passageTo newlines
+    sinceAfter lines gapped paired ungap unpair soundGap soundPair lineBeginning word isAt soundKey carried function onSide pressed fits
+    bounded key quarter sized plainOf lengthsOf storesOf editorOk virtualIn rowCells joined window visible policy firstRow lastRow tabled
+    isSession openedText opened shown finished keyed markedAfter pressing moving outcome
 numbers = refl
 
 fact : (i : ℕ) → getD computed i 0 ≡ getD (0 ∷ 1 ∷ 5 ∷ 3 ∷ 4 ∷ 0 ∷ []) i 0
