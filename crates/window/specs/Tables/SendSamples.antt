@@ -106,7 +106,9 @@ sendSamples =
     ∷ small 1 2 1 4 "abcdef" 99 (Refuses 1 0)
     ∷ small 1 2 1 0 "abcde" 99 (Refuses 1 0)
     ∷ small 1 2 1 0 "abcdefg" 99 (Refuses 1 0)
+    -- SIZE: H or W is not as tabled.
     ∷ record { H = 0; W = 3; first = 0; last = 0; row = 1; column = 0; screen = ""; room = 99; expected = Refuses 1 0 }
+    ∷ record { H = 2; W = 0; first = 0; last = 0; row = 1; column = 0; screen = ""; room = 99; expected = Refuses 1 0 }
     -- TEXT, also where the row is not named: the first such byte. SIZE comes before it, ROOM behind it.
     ∷ small 1 2 1 0 "ab$^ef" 99 (Refuses 3 2)
     ∷ small 1 1 1 0 "abcde^" 99 (Refuses 3 5)
@@ -173,6 +175,7 @@ readSamples =
     ∷ read "^[1;4Hx" Loses
     ∷ read "^[0;1Hx" Loses
     ∷ read "^[2;Hx" Loses
+    ∷ read "^[;1Hx" Loses
     ∷ read "^[02;1Hx" Loses
     ∷ read "^[2;01Hx" Loses
     ∷ read "^[2Jx" Loses
