@@ -10,6 +10,7 @@ const DOCUMENT_RIGHT: Key = Key(1, 0, 1, 4);
 const DELETE_TO_END: Key = Key(1, 1, 1, 4);
 const NEXT_LINE: Key = Key(1, 0, 1, 2);
 const NEXT_WORD: Key = Key(1, 0, 1, 1);
+const LAST_WORD: Key = Key(1, 0, 0, 1);
 
 pub struct Scene {
     pub name: &'static str,
@@ -41,6 +42,8 @@ pub fn all(t: usize, h: usize, w: usize) -> Vec<Scene> {
     vec![
         scene("typing in the middle", &text, &middle, &typed),
         scene("to the end and back", &text, &[], &[DOCUMENT_RIGHT, DOCUMENT_LEFT]),
+        scene("word by word", &text, &middle, &[NEXT_WORD, NEXT_WORD, LAST_WORD, LAST_WORD]),
+        scene("a word as long as the text", &letters, &[], &[NEXT_WORD]),
         scene("delete half and RECALL", &text, &[&middle[..], &rest].concat(), &rest),
         scene("FIND, ordinary text", &text, &pattern, &[FIND]),
         scene("UPFIND, ordinary text", &text, &[&pattern[..], &[DOCUMENT_RIGHT]].concat(), &[UPFIND]),

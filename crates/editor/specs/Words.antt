@@ -12,6 +12,8 @@ pub use Rattle.editor.specs.declared.Action.{Action}
 pub use Rattle.editor.specs.declared.Action.the-variants.{Move, Delete}
 pub use Rattle.editor.specs.declared.Place.{Place}
 pub use Rattle.editor.specs.declared.Place.the-variants.{Character, Word, LineBeginning, LineEnding, Document}
+pub use Rattle.editor.specs.declared.Neighbour.{Neighbour}
+pub use Rattle.editor.specs.declared.Neighbour.the-variants.{Nothing, Space, Newline, Other}
 pub use Rattle.editor.specs.declared.Mode.{Mode}
 pub use Rattle.editor.specs.declared.Mode.the-variants.{Main, Quoted}
 pub use Rattle.editor.specs.declared.Key.{Key}

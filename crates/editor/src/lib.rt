@@ -26,6 +26,14 @@ pub enum Place {
     Document,
 }
 
+// What stands on one side of a place: no byte at all, a space, a newline, or another byte. The word test decides by the two sides.
+pub enum Neighbour {
+    Nothing,
+    Space,
+    Newline,
+    Other,
+}
+
 // Which text the keys act on: the document or the quotation.
 pub enum Mode {
     Main,

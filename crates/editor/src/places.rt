@@ -1,4 +1,5 @@
 // Places, and the distance to the nearest one. Going left only the text left of the cursor matters, going right only the other.
+use crate::Neighbour;
 use crate::Place;
 use crate::finds::lowest_place;
 use gap::Direction;
@@ -9,7 +10,7 @@ ghost use Prim.Native.Nat.{ℕ, _+_, _≤_};
 ghost use lib.ListN.{length, take, drop};
 ghost use Rattle.gap.specs.Rules.Nearest.{distance};
 ghost use Rattle.gap.specs.Rules.Layout.{ungap};
-ghost use Rattle.editor.specs.Rules.Places.{lineBeginning, lineEnding, word, isAt};
+ghost use Rattle.editor.specs.Rules.Places.{lineBeginning, lineEnding, neighbourOf, leftOf, rightOf, word, isAt};
 ghost use Rattle.editor.specs.Wording.Promise.{wholeOf};
 ghost use Rattle.editor.specs.Wording.Searches.{facing};
 
@@ -35,26 +36,73 @@ pub fn line_ending_at(t: &[u8], p: usize) -> bool
     t[p] == 10
 }
 
-// Place p of a text is a word place: behind a newline or nothing always; behind a space unless a blank follows.
+// What a byte is to the word test.
+fn neighbour(b: u8) -> Neighbour
+    ensures { λ n. ⌜ n ≡ neighbourOf b ⌝ }
+{
+    if b == 32 {
+        return Neighbour::Space;
+    }
+    if b == 10 {
+        return Neighbour::Newline;
+    }
+    Neighbour::Other
+}
+
+// What stands left of place p of a text.
+fn left_of(t: &[u8], p: usize) -> Neighbour
+    requires { ⌜ p ≤ length (now t) ⌝ }
+    ensures { λ n. ⌜ n ≡ leftOf (record { l = take p (now (t .entry)); r = drop p (now (t .entry)) }) ⌝ }
+{
+    if p < 1 {
+        return Neighbour::Nothing;
+    }
+    neighbour(t[p - 1])
+}
+
+// What stands right of it.
+fn right_of(t: &[u8], p: usize) -> Neighbour
+    requires { ⌜ p ≤ length (now t) ⌝ }
+    ensures { λ n. ⌜ n ≡ rightOf (record { l = take p (now (t .entry)); r = drop p (now (t .entry)) }) ⌝ }
+{
+    if t.len() <= p {
+        return Neighbour::Nothing;
+    }
+    neighbour(t[p])
+}
+
+// Place p of a text is a word place: one decision for each pair. The right side is asked for where the left one is known, so that inside a
+// word, where no place is one, a single byte is read.
 pub fn word_at(t: &[u8], p: usize) -> bool
     requires { ⌜ p ≤ length (now t) ⌝ }
     ensures { λ ok. ⌜ ok ≡ word (record { l = take p (now (t .entry)); r = drop p (now (t .entry)) }) ⌝ }
 {
-    if p < 1 {
-        return true;
+    match left_of(t, p) {
+        Neighbour::Nothing => match right_of(t, p) {
+            Neighbour::Nothing => true,
+            Neighbour::Space => true,
+            Neighbour::Newline => true,
+            Neighbour::Other => true,
+        },
+        Neighbour::Space => match right_of(t, p) {
+            Neighbour::Nothing => true,
+            Neighbour::Space => false,
+            Neighbour::Newline => false,
+            Neighbour::Other => true,
+        },
+        Neighbour::Newline => match right_of(t, p) {
+            Neighbour::Nothing => true,
+            Neighbour::Space => true,
+            Neighbour::Newline => true,
+            Neighbour::Other => true,
+        },
+        Neighbour::Other => match right_of(t, p) {
+            Neighbour::Nothing => false,
+            Neighbour::Space => false,
+            Neighbour::Newline => false,
+            Neighbour::Other => false,
+        },
     }
-    let a = t[p - 1];
-    if a == 10 {
-        return true;
-    }
-    if a != 32 {
-        return false;
-    }
-    if t.len() <= p {
-        return true;
-    }
-    let b = t[p];
-    !((b == 32) | (b == 10))
 }
 
 // Place p of a text is such a place, for the direction.

@@ -2,25 +2,27 @@
 -- in the direction.
 use mathlib.Core.Path.{_≡_, refl, sym, ap, ap₂, _∙_}
 use mathlib.Core.Logic.{⊎-elim}
-use mathlib.Core.Bool.{Bool, true, false, not, _&&_, or-false}
+use mathlib.Core.Bool.{Bool, true, false}
 use mathlib.Core.List.{List, [], _∷_, _++_}
 use Prim.Native.Nat.{ℕ, suc, _+_, _-_, _≤_, _<_}
 use native.Mathlib.Omega.{arith}
 use lib.Dec.{leb, ltb}
 use lib.ListN.{length, take, drop, getD, length-append, length-drop, drop-of-length-le}
 use lib.Seq.{take-suc, drop-cons, length-take-le, drop-append-add}
-use borrow.Author.Tests.{eq-eqb, ne-eqb, leb-true, leb-false, lt-ltb, le-ltb}
+use borrow.Author.Tests.{ne-eqb, leb-true, leb-false, lt-ltb, le-ltb}
 use borrow.Rule.Slice.PartAt.{part-to-end}
 use Rattle.gap.specs.Rules.Sequence.{lastOf}
 use Rattle.gap.specs.Rules.Doc.{Doc, room, move, times}
 use Rattle.gap.specs.Rules.Nearest.{nearest, distance}
 use Rattle.gap.specs.Rules.Layout.{ungap}
-use Rattle.gap.proofs.Laws.Tests.{decided, or-right, cond-true, cond-false}
+use Rattle.gap.proofs.Laws.Tests.{decided, cond-true, cond-false}
 use Rattle.gap.proofs.Laws.Doc.{back-append, moves-left, moves-right, room-moves}
 use Rattle.gap.proofs.Laws.Nearest.{least-reached, none-nowhere, nearest-same}
 use Rattle.editor.specs.Words.{Direction, Left, Right, Search}
 use Rattle.editor.specs.Words.{Place, Character, Word, LineBeginning, LineEnding, Document}
-use Rattle.editor.specs.Rules.Places.{isNewline, blank, emptyOr, isEmpty, lineBeginning, lineEnding, word, documentEnd, isAt}
+use Rattle.editor.specs.Words.{Neighbour, Nothing, Space, Newline, Other}
+use Rattle.editor.specs.Rules.Places.{isNewline, emptyOr, isEmpty, lineBeginning, lineEnding, documentEnd, isAt}
+use Rattle.editor.specs.Rules.Places.{neighbourOf, firstNeighbour, leftOf, rightOf, wordBetween, word}
 use Rattle.editor.specs.Wording.Promise.{wholeOf}
 use Rattle.editor.specs.Wording.Searches.{lowest, facing}
 
@@ -34,14 +36,6 @@ module _ (t : List ℕ) (p : ℕ) where
       let same : p ≡ suc (p - 1) = omega arith in
       ap (λ k. lastOf (take k t)) same ∙ rw (take-suc t (p - 1) 0 (omega arith)) (back-append (take (p - 1) t) _ 1 refl)
 
-  -- What a test says of the byte behind place p, or of nothing.
-  module _ (test : ℕ → Bool) where
-    at-last : length t ≤ p → true ≡ emptyOr test (drop p t)
-    at-last end = sym (ap (emptyOr test) (drop-of-length-le t end))
-
-    byte-behind : p < length t → test (getD t p 0) ≡ emptyOr test (drop p t)
-    byte-behind more = sym (ap (emptyOr test) (drop-cons t p 0 more))
-
   -- Place p is a line beginning: it is the first, or a newline stands before it.
   pub beginning-first : p < 1 → true ≡ lineBeginning (cutAt p t)
   unfolding lineBeginning
@@ -54,38 +48,41 @@ module _ (t : List ℕ) (p : ℕ) where
   -- Place p is a line ending: it is the last, or a newline stands behind it.
   pub ending-last : length t ≤ p → true ≡ lineEnding (cutAt p t)
   unfolding lineEnding
-  ending-last end = at-last isNewline end
+  ending-last end = sym (ap (emptyOr isNewline) (drop-of-length-le t end))
 
   pub ending-before : p < length t → isNewline (getD t p 0) ≡ lineEnding (cutAt p t)
   unfolding lineEnding
-  ending-before more = byte-behind isNewline more
+  ending-before more = sym (ap (emptyOr isNewline) (drop-cons t p 0 more))
 
-  -- Place p is a word place: at a line beginning always, behind a space unless a blank follows, behind another byte never.
-  word-beginning : true ≡ lineBeginning (cutAt p t) → true ≡ word (cutAt p t)
-  unfolding word
-  word-beginning e = sym (or-right (emptyOr blank (lastOf (take p t)) && emptyOr (λ b. not (blank b)) (drop p t)) (sym e))
+  -- What stands left of place p: nothing before the first, else the byte before it.
+  pub left-first : p < 1 → Nothing ≡ leftOf (cutAt p t)
+  left-first h = let none : p ≡ 0 = omega arith in rw none
 
-  pub word-first : p < 1 → true ≡ word (cutAt p t)
-  word-first h = word-beginning (beginning-first h)
+  pub left-later : 1 ≤ p → p ≤ length t → neighbourOf (getD t (p - 1) 0) ≡ leftOf (cutAt p t)
+  left-later above fits = sym (ap firstNeighbour (byte-before above fits))
 
-  module _ (above : 1 ≤ p) (fits : p ≤ length t) where
-    pub word-newline : getD t (p - 1) 0 ≡ 10 → true ≡ word (cutAt p t)
-    word-newline e = word-beginning (sym (eq-eqb _ _ e) ∙ beginning-later above fits)
+  -- What stands right of it: nothing behind the last, else the byte behind it.
+  pub right-last : length t ≤ p → Nothing ≡ rightOf (cutAt p t)
+  right-last end = sym (ap firstNeighbour (drop-of-length-le t end))
 
-    pub word-inside : (getD t (p - 1) 0 ≡ 10 → ⊥) → (getD t (p - 1) 0 ≡ 32 → ⊥) → false ≡ word (cutAt p t)
-    unfolding word lineBeginning
-    word-inside no-newline no-space = sym (rw (byte-before above fits, ne-eqb _ _ no-newline, ne-eqb _ _ no-space))
+  pub right-before : p < length t → neighbourOf (getD t p 0) ≡ rightOf (cutAt p t)
+  right-before more = sym (ap firstNeighbour (drop-cons t p 0 more))
 
-    module _ (space : getD t (p - 1) 0 ≡ 32) where
-      behind-space : emptyOr (λ b. not (blank b)) (drop p t) ≡ word (cutAt p t)
-      unfolding word lineBeginning
-      behind-space = sym (rw (byte-before above fits, space) (or-false _))
+-- What a byte is, by the tests of the code.
+pub byte-space : {b : ℕ} → b ≡ 32 → Space ≡ neighbourOf b
+byte-space e = rw e
 
-      pub word-last : length t ≤ p → true ≡ word (cutAt p t)
-      word-last end = at-last (λ b. not (blank b)) end ∙ behind-space
+pub byte-newline : {b : ℕ} → b ≡ 10 → Newline ≡ neighbourOf b
+byte-newline e = rw e
 
-      pub word-before : p < length t → not (blank (getD t p 0)) ≡ word (cutAt p t)
-      word-before more = byte-behind (λ b. not (blank b)) more ∙ behind-space
+pub byte-other : {b : ℕ} → (b ≡ 32 → ⊥) → (b ≡ 10 → ⊥) → Other ≡ neighbourOf b
+byte-other no-space no-newline = sym (rw (ne-eqb _ _ no-space, ne-eqb _ _ no-newline))
+
+-- The decision for a pair of neighbours that the code has found out.
+pub word-known : (d : Doc) {left right known-left known-right : Neighbour} {ok : Bool} → left ≡ leftOf d → right ≡ rightOf d
+    → left ≡ known-left → right ≡ known-right → ok ≡ wordBetween known-left known-right → ok ≡ word d
+unfolding word
+word-known d left right known-left known-right e = e ∙ ap₂ wordBetween (sym known-left ∙ left) (sym known-right ∙ right)
 
 -- A document is at its end where there is room for less than one move; place p of a text has room for p moves to the left.
 empty-short : (s : List ℕ) → isEmpty s ≡ ltb (length s) 1

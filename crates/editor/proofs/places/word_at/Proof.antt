@@ -1,17 +1,50 @@
--- `places::word_at` meets its contract: a line beginning is one; else the byte before the place decides, and behind a space the byte
--- after it.
-use native.Mathlib.Omega.{arith}
+-- `places::word_at` meets its contract: each pair of neighbours has its decision.
+use mathlib.Core.Path.{refl}
 use borrow.Author.Needs.{needs}
-use Rattle.editor.proofs.Laws.PlaceScans.{word-first, word-newline, word-inside, word-last, word-before}
+use Rattle.editor.proofs.Laws.PlaceScans.{word-known}
 use Rattle.editor.proofs.places.word_at.Statement.{statement}
 use Rattle.editor.proofs.places.word_at.Tie as tie
 
 pub word-at-spec : {M : Type 1} → statement M
 word-at-spec = tie.close (tie.spec
-    (λ c. word-first _ _ (c .if1 .taken))  -- returns
-    (λ c. search needs)  -- shared-slice-read-a
-    (λ c. word-newline _ _ (omega arith) (c .before .before .before .pre) (c .if2 .taken))  -- returns-2
-    (λ c. word-inside _ _ (omega arith) (c .before .before .before .before .pre) (c .before .if2 .left) (c .if3 .taken))  -- returns-3
-    (λ c. word-last _ _ (omega arith) (omega arith) (c .before .if3 .left) (c .if4 .taken))  -- returns-4
-    (λ c. search needs)  -- shared-slice-read-b
-    (λ c. word-before _ _ (omega arith) (omega arith) (c .before .before .if3 .left) (c .before .if4 .left)))  -- returns-5
+    (λ c κs. search needs)  -- left-of-requires
+    (λ c. search needs)  -- enum-told
+    (λ c κs. search needs)  -- right-of-requires
+    (λ c. search needs)  -- enum-told-2
+    (λ c. search needs)  -- enum-told-3
+    (λ c. search needs)  -- enum-told-4
+    (λ c. search needs)  -- enum-told-5
+    (λ c. search needs)  -- enum-told-6
+    (λ c κs. search needs)  -- right-of-requires-2
+    (λ c. search needs)  -- enum-told-7
+    (λ c. search needs)  -- enum-told-8
+    (λ c. search needs)  -- enum-told-9
+    (λ c. search needs)  -- enum-told-10
+    (λ c. search needs)  -- enum-told-11
+    (λ c κs. search needs)  -- right-of-requires-3
+    (λ c. search needs)  -- enum-told-12
+    (λ c. search needs)  -- enum-told-13
+    (λ c. search needs)  -- enum-told-14
+    (λ c. search needs)  -- enum-told-15
+    (λ c. search needs)  -- enum-told-16
+    (λ c κs. search needs)  -- right-of-requires-4
+    (λ c. search needs)  -- enum-told-17
+    (λ c. search needs)  -- enum-told-18
+    (λ c. search needs)  -- enum-told-19
+    (λ c. search needs)  -- enum-told-20
+    (λ c. search word-known)  -- returns
+    (λ c. search word-known)  -- returns-2
+    (λ c. search word-known)  -- returns-3
+    (λ c. search word-known)  -- returns-4
+    (λ c. search word-known)  -- returns-5
+    (λ c. search word-known)  -- returns-6
+    (λ c. search word-known)  -- returns-7
+    (λ c. search word-known)  -- returns-8
+    (λ c. search word-known)  -- returns-9
+    (λ c. search word-known)  -- returns-10
+    (λ c. search word-known)  -- returns-11
+    (λ c. search word-known)  -- returns-12
+    (λ c. search word-known)  -- returns-13
+    (λ c. search word-known)  -- returns-14
+    (λ c. search word-known)  -- returns-15
+    (λ c. search word-known))  -- returns-16
