@@ -6,7 +6,7 @@ use crate::core::{key_of, numbers_of, Answer, Core, Reply, Second};
 use crate::generate;
 use crate::paint_calls::PaintCall;
 use crate::painted::{self, Unpainted};
-use crate::plain::{press, Doc, Edited, Editor};
+use crate::plain::{press, Action, Doc, Edited, Editor, Key};
 use crate::random::Random;
 use crate::terminal::Terminal;
 use crate::unreadable::{self, Script};
@@ -35,6 +35,8 @@ pub struct Counts {
 pub struct Codes {
     pub codes: [usize; 8],
     pub bells: usize,
+    /// Deletions with the bell, where there was recall text to keep.
+    pub kept: usize,
     pub quoted: usize,
 }
 
@@ -43,14 +45,19 @@ impl Codes {
         // A wrong code is a difference, and never comes this far.
         self.codes[answer.code] += 1;
         self.bells += answer.bell;
-        self.quoted += matches!(call.kind, Kind::Key { record, .. } if record.mode == 1) as usize;
+        let Kind::Key { record, numbers } = call.kind else { return };
+        let quoted = record.mode == 1;
+        self.quoted += quoted as usize;
+        let recall = if quoted { record.qrl.max(record.qrr) } else { record.rl.max(record.rr) };
+        let deletion = matches!(key_of(numbers), Some(Key::Function(Action::Delete, ..)));
+        self.kept += (answer.bell == 1 && deletion && recall > 0) as usize;
     }
 }
 
 impl std::fmt::Display for Codes {
     fn fmt(&self, f: &mut std::fmt::Formatter) -> std::fmt::Result {
-        let names = ["accepted", "SIZE", "LONG", "TEXT", "SESSION", "KEY", "FULL", "ROOM", "bell", "in QUOTED"];
-        let counts = self.codes.into_iter().chain([self.bells, self.quoted]);
+        let names = ["accepted", "SIZE", "LONG", "TEXT", "SESSION", "KEY", "FULL", "ROOM", "bell", "recall text kept", "in QUOTED"];
+        let counts = self.codes.into_iter().chain([self.bells, self.kept, self.quoted]);
         let shown: Vec<String> =
             names.iter().zip(counts).filter(|(_, count)| *count > 0).map(|(name, count)| format!("{name} {count}")).collect();
         write!(f, "{}: {}", self.codes.iter().sum::<usize>(), shown.join(", "))

@@ -219,11 +219,11 @@ fn refused(key: Key) -> bool {
     }
 }
 
-/// The steps made; none is the bell. A deletion that finds no place empties the recall text.
+/// The steps made; none is the bell, and "a deletion with the bell now leaves recall text unchanged, in QUOTED too" (02, M-103).
 fn function(edited: &mut Edited, action: Action, direction: Direction, place: Place) -> Option<usize> {
-    let d = distance(&edited.text, direction, |doc| is_place(doc, direction, place));
+    let d = distance(&edited.text, direction, |doc| is_place(doc, direction, place))?;
     let mut gone = Vec::new();
-    for _ in 0..d.unwrap_or(0) {
+    for _ in 0..d {
         gone.extend(edited.text.step(action, direction));
     }
     if action == Action::Delete {
@@ -233,7 +233,7 @@ fn function(edited: &mut Edited, action: Action, direction: Direction, place: Pl
             Direction::Right => Doc { l: Vec::new(), r: gone.into() },
         };
     }
-    d
+    Some(d)
 }
 
 fn find(editor: &mut Editor, direction: Direction) -> Option<usize> {

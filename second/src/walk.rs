@@ -51,7 +51,7 @@ struct Writer {
 type Phrase = fn(&mut Writer);
 
 /// The phrases, each with how often it comes.
-const PHRASES: [(usize, Phrase); 11] = [
+const PHRASES: [(usize, Phrase); 12] = [
     (3, Writer::command),
     (30, Writer::any),
     (20, Writer::type_some),
@@ -61,6 +61,7 @@ const PHRASES: [(usize, Phrase); 11] = [
     }),
     (12, Writer::move_on),
     (14, Writer::delete_and_recall),
+    (14, Writer::ring_and_recall),
     (12, Writer::find),
     (12, Writer::replace),
     (8, Writer::quotation),
@@ -136,6 +137,33 @@ impl Writer {
         for _ in 0..self.random.below(4) {
             let key = if self.random.percent(60) { self.letter() } else { function(&mut self.random) };
             self.press(key);
+        }
+        for _ in 0..self.random.pick(&[1, 1, 2]) {
+            self.press(Key::Recall);
+        }
+    }
+
+    /// Something goes, often all of the line or text; deletions on from where there is nothing more, so that most of them ring; and
+    /// RECALL straight after, once too often for a small store.
+    fn ring_and_recall(&mut self) {
+        if self.random.percent(40) {
+            self.begin_quotation();
+            self.type_some();
+        }
+        let direction = self.random.pick(&DIRECTIONS);
+        let any = self.random.pick(&PLACES);
+        let all = self.random.pick(&[any, any, Place::Document]);
+        self.press(Key::Function(Action::Delete, direction, all));
+        // On to the end of the text, or only of the line, from where a deletion still has somewhere to go.
+        let line = if direction == Direction::Left { Place::LineBeginning } else { Place::LineEnding };
+        let end = self.random.pick(&[line, Place::Document, Place::Document]);
+        self.press(Key::Function(Action::Move, direction, end));
+        for _ in 0..self.random.pick(&[1, 1, 2, 3]) {
+            let place = self.random.pick(&PLACES);
+            self.press(Key::Function(Action::Delete, direction, place));
+            if self.random.percent(40) {
+                self.press(Key::Recall);
+            }
         }
         for _ in 0..self.random.pick(&[1, 1, 2]) {
             self.press(Key::Recall);

@@ -1,45 +1,9 @@
 //! Document 01, "Edges, both sides": P1 to P12, through opening and key calls.
 
-use second::bytes::{session, Stores};
-use second::core::{numbers_of, Core, Reply, Second};
-use second::plain::{Action::*, Direction::*, Key, Key::*, Place::*};
+mod bench;
 
-struct Bench {
-    reply: Reply,
-    stores: Stores,
-}
-
-impl Bench {
-    /// A session on a text with its cursor, written as document 01 writes it.
-    fn open(text: &str, t: usize, h: usize, w: usize) -> Bench {
-        let (l, r) = text.split_once('|').expect("a cursor");
-        let mut stores = Stores::zeros(t, h, w);
-        stores.text[..l.len() + r.len()].copy_from_slice([l, r].concat().as_bytes());
-        let reply = Second.open(l.len() + r.len(), h, w, &mut stores);
-        let mut bench = Bench { reply, stores };
-        for _ in l.bytes() {
-            bench.press(Function(Move, Right, Character));
-        }
-        bench
-    }
-
-    /// The code, the steps and the bell of a key.
-    fn press(&mut self, key: Key) -> (usize, usize, usize) {
-        self.reply = Second.key(self.reply.record, numbers_of(key), &mut self.stores);
-        let answer = self.reply.answer;
-        (answer.code, answer.steps, answer.bell)
-    }
-
-    fn type_text(&mut self, text: &str) {
-        text.bytes().for_each(|byte| assert_eq!(self.press(Insert(byte)), (0, 0, 0)));
-    }
-
-    fn text(&self) -> String {
-        let text = session(&self.reply.record, &self.stores).expect("a session").main.text;
-        let r: Vec<u8> = text.r.into();
-        format!("{}|{}", String::from_utf8(text.l).unwrap(), String::from_utf8(r).unwrap())
-    }
-}
+use bench::Bench;
+use second::plain::{Action::*, Direction::*, Key::*, Place::*};
 
 #[test]
 fn p1_to_p3_words_to_the_right() {

@@ -2,3 +2,4 @@
 pub mod Promise
 pub mod Searches
 pub mod Neighbours
+pub mod Recalling

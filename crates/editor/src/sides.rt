@@ -14,7 +14,6 @@ use crate::records::moved_by;
 use crate::records::went;
 use gap::Direction;
 use gap::Search;
-use gap::runs::clear;
 use gap::texts::delete_left;
 use gap::texts::delete_right;
 use gap::texts::insert;
@@ -26,7 +25,7 @@ ghost use Prim.Native.Nat.{_≤_};
 ghost use lib.ListN.{length};
 ghost use Rattle.gap.specs.Rules.Doc.{move, times};
 ghost use Rattle.gap.specs.Rules.Layout.{gapped, ungap, IsGap};
-ghost use Rattle.gap.specs.declared.Search.the-variants.{Reached, Nowhere};
+ghost use Rattle.gap.specs.declared.Search.the-variants.{Reached};
 ghost use Rattle.editor.specs.declared.Action.the-variants.{Move, Delete};
 ghost use Rattle.editor.specs.Rules.Keys.{inserted, carried, function, recalled};
 ghost use Rattle.editor.specs.Wording.Promise.{roomOf, OnSide, EditsSide, EditsText, editing};
@@ -103,29 +102,6 @@ pub fn delete_side(
     }
 }
 
-// No place was found: the bell. A deletion empties the recall text.
-pub fn bell_side(
-    action: Action,
-    way: Direction,
-    n: Sizes,
-    text: &[u8],
-    recall: &mut [u8],
-) -> SideReply
-    requires { ⌜ OnSide n (now text) (now recall) ⌝ }
-    ensures { λ t. ⌜ EditsSide t n (carried action way Nowhere) (now (text .entry)) (now (recall .entry)) (now (text .entry)) (now (recall .exit)) ⌝ }
-{
-    match action {
-        Action::Move => done(RANG, n),
-        Action::Delete => {
-            clear(recall);
-            let mut m = n;
-            m.rl = 0;
-            m.rr = 0;
-            done(RANG, m)
-        }
-    }
-}
-
 // A move or deletion of d bytes.
 fn carry_side(
     action: Action,
@@ -145,7 +121,7 @@ fn carry_side(
     }
 }
 
-// A function key: as many single steps as the distance to its place.
+// A function key: as many single steps as the distance to its place. Where there is none, the bell, and nothing is touched.
 pub fn function_side(
     action: Action,
     way: Direction,
@@ -160,7 +136,7 @@ pub fn function_side(
     let l = n.l;
     let r = n.r;
     let Search::Reached(d) = place_distance(place, way, text, l, r) else {
-        return bell_side(action, way, n, text, recall);
+        return done(RANG, n);
     };
     carry_side(action, way, d, n, text, recall)
 }

@@ -19,3 +19,4 @@ pub mod OverAndBack
 pub mod Boundary
 pub mod HostTerminal
 pub mod ShutOut
+pub mod RecallCalls

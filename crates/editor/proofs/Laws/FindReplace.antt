@@ -17,7 +17,7 @@ use Rattle.gap.proofs.Laws.Compared.{begins-fits}
 use Rattle.gap.proofs.Laws.Doc.{splice-twice}
 use Rattle.gap.proofs.Laws.Layout.{length-gapped, ungap-gapped}
 use Rattle.gap.proofs.Laws.Moves.{gap-is}
-use Rattle.editor.specs.Words.{Direction, Left, Search, Move, Main, Sizes, Lengths, Report}
+use Rattle.editor.specs.Words.{Direction, Search, Move, Main, Sizes, Lengths, Report}
 use Rattle.editor.specs.declared.SideReply.{SideReply}
 use Rattle.editor.specs.declared.EditorReply.{EditorReply}
 use Rattle.editor.specs.Rules.Plain.{Side, Plain, quiet, rang, Did, reporting, within, done}
@@ -25,7 +25,7 @@ use Rattle.editor.specs.Rules.Keys.{carried, withSide, matches, searched
 use Rattle.editor.specs.Rules.Bytes.{Stores, sizesOf, plainOf, editedTo, SoundPlain}
 use Rattle.editor.specs.Wording.Promise.{Sound, stores, doneReply, written, EditsSide, replyOf}
 use Rattle.editor.proofs.Laws.States.{sound-fits, searched-sound}
-use Rattle.editor.proofs.Laws.SideEdits.{landed, not-moved}
+use Rattle.editor.proofs.Laws.SideEdits.{landed, not-did}
 use Rattle.editor.proofs.Laws.Replies.{on-side, landed as all-landed}
 use Rattle.editor.proofs.Laws.Encoding.{session-encoded}
 use Rattle.editor.proofs.Laws.Fitting.{Sized, sizes, fitting}
@@ -127,13 +127,13 @@ module _ (Q : ℕ) (n : Lengths) (b : Stores) (sound : Sound Q n b) where
   pub substitute-rings : matches (p .pattern) (p .main .text) ≡ false
       → {reply : EditorReply} {report : Report} → reply ≡ record { code = 0; report = report; lengths = n } → report ≡ rang
       → record { reply = reply; stores = b } ≡ editedTo Q n b (done (substituted p))
-  unfolding substituted carried plainOf
+  unfolding substituted plainOf
   substitute-rings no-match {reply} e said =
       let same : reporting rang p ≡ substituted p = sym (cond-false _ _ no-match) in
       let room = ap (λ did. fits T Q (did .state)) (sym same) ∙ sound-fits T Q p sound-held in
       main-done (reporting rang (p .main)) (substituted p) same room (doneReply rang (n .main)) reply (b .text) (b .recall)
       (e ∙ λ i. record { code = 0; report = said i; lengths = n })
-      (not-moved (on-side Q n b sound Main) Left refl refl)
+      (not-did (on-side Q n b sound Main) refl refl)
 
   -- The pattern is dropped, the replacement goes in around the cursor, and the pattern is all that the recall store then holds.
   module _ (dropped : List ℕ) (less : dropped ≡ gapped T (splice 0 (n .pl) empty (ungap (n .main .l) (n .main .r) (b .text)))) where

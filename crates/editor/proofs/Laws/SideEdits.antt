@@ -194,21 +194,18 @@ module _ {n : Sizes} {text recall : List ℕ} (on : OnSide n text recall) where
   removed-fits Left h = omega (arith, on .gap .fits, on .same)
   removed-fits Right h = omega (arith, on .gap .fits, on .same)
 
-  -- ---- No place was found: a move leaves everything, a deletion empties the recall text
+  -- ---- No place was found: the bell, and everything stays
 
-  pub not-moved : (way : Direction) {t : SideReply} {report : Report} → t ≡ doneReply report n → report ≡ rang
-      → EditsSide t n (carried Move way Nowhere) text recall text recall
-  unfolding carried
-  not-moved way reply said =
+  pub not-did : {t : SideReply} {report : Report} → t ≡ doneReply report n → report ≡ rang → EditsSide t n (reporting rang) text recall text recall
+  not-did reply said =
       landed n text recall _ reply said held-fits (same-sizes (sym left) (sym right) (sym first) (sym second))
       (sym (on .gap .holds)) (sym (on .pair .holds))
 
-  pub not-deleted : (way : Direction) {t : SideReply} {report : Report} {recallThen : List ℕ}
-      → t ≡ doneReply report (record { l = n .l; r = n .r; rl = 0; rr = 0 }) → report ≡ rang → recallThen ≡ zeros (length recall)
-      → EditsSide t n (carried Delete way Nowhere) text recall text recallThen
-  unfolding carried paired
-  not-deleted way reply said cleared =
-      landed n text recall _ reply said held-fits (same-sizes (sym left) (sym right) refl refl) (sym (on .gap .holds)) (cleared ∙ rw sub-zero)
+  pub not-carried : (action : Action) (way : Direction) {t : SideReply} {report : Report} → t ≡ doneReply report n → report ≡ rang
+      → EditsSide t n (carried action way Nowhere) text recall text recall
+  unfolding carried
+  not-carried Move way reply said = not-did reply said
+  not-carried Delete way reply said = not-did reply said
 
   -- A function key does what it does at the distance that was found.
   pub by-distance : (action : Action) (way : Direction) (place : Place) {t : SideReply} {found search : Search} {textThen recallThen : List ℕ}

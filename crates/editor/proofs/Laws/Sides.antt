@@ -39,7 +39,7 @@ module _ (size : ℕ) (s : Side) (sound : SoundSide size s) where
         recall = removed-holdable size n way (s .text) (sound .text);
         half = removed-half n way (times (delete way) n (s .text)) (s .text);
       }
-  carried-sound Delete way Nowhere = record { text = sound .text; recall = empty-holdable size; half = refl }
+  carried-sound Delete way Nowhere = sound
 
   -- An insertion and RECALL keep it sound if the finished text fits.
   pub inserted-sound : (b : ℕ) → allowed b ≡ true → length (content (inserted b s .state .text)) ≤ size

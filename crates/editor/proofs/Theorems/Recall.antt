@@ -1,25 +1,32 @@
--- RECALL straight after a deletion restores text and cursor (01, recall text). Moves and searches keep the content.
-use mathlib.Core.Path.{_≡_, refl, ap, _∙_}
-use mathlib.Core.List.{append-nil}
-use Prim.Native.Nat.{ℕ}
+-- RECALL straight after a deletion restores text and cursor where the deletion found its place, and puts the older recall text in where it
+-- rang (01, recall text; 02, M-103). Moves and searches keep the content.
+use mathlib.Core.Path.{_≡_, refl, sym, ap, subst, subst⁻¹, _∙_}
+use mathlib.Core.Logic.{_↔_}
+use mathlib.Core.Bool.{true, false≢true}
+use mathlib.Core.List.{[], _∷_, append-nil}
+use Prim.Native.Nat.{ℕ, _≤_}
 use native.Mathlib.Nat.{sub-zero}
-use lib.ListN.{take-append-drop}
+use native.Mathlib.Omega.{arith}
+use lib.ListN.{length, take-append-drop}
 use lib.Seq.{take-length}
-use Rattle.gap.specs.Rules.Doc.{Doc, empty, content, delete, times, passed, splice, removed}
-use Rattle.gap.specs.Rules.Nearest.{distance}
+use Rattle.gap.specs.Rules.Sequence.{every}
+use Rattle.gap.specs.Rules.Doc.{Doc, empty, content, move, delete, times, passed, splice, removed}
+use Rattle.gap.specs.Rules.Nearest.{nearest, distance}
+use Rattle.gap.proofs.Laws.Tests.{clash}
 use Rattle.gap.proofs.Laws.Doc.{same-texts, deletions-left, deletions-right, insertions, content-moves}
-use Rattle.editor.specs.Words.{Direction, Left, Right, Search, Reached, Nowhere, Move, Delete, Place, Mode, Main, Quoted}
+use Rattle.editor.specs.Words.{Direction, Left, Right, Search, Reached, Nowhere, Action, Move, Delete, Place, Character, Mode, Main, Quoted}
 use Rattle.editor.specs.Words.{Function, Recall, Find}
+use Rattle.editor.specs.Rules.Refusals.{FULL}
 use Rattle.editor.specs.Rules.Places.{isAt}
-use Rattle.editor.specs.Rules.Plain.{Side, Plain, quiet, Did, reporting, within, done}
-use Rattle.editor.specs.Rules.Keys.{soundKey, carried, function, recalled, sideOf, withSide, onSide}
-use Rattle.editor.specs.Rules.Keys.{withPattern, matches, searched, found, pressed, fits, key}
-use Rattle.editor.proofs.Laws.Outcomes.{accepted}
+use Rattle.editor.specs.Rules.Plain.{Side, Plain, opening, quiet, rang, Did, reporting, within, refused, done}
+use Rattle.editor.specs.Rules.Keys.{soundKey, carried, function, recalled, sideOf, withSide, onSide, withPattern, matches, searched, found}
+use Rattle.editor.specs.Rules.Keys.{pressed, fits, bounded, key, after, keys, Unsound, Exceeds}
 use Rattle.editor.specs.Rules.Bytes.{SoundPlain}
+use Rattle.editor.specs.Wording.Recalling.{withRecall, recallPutIn}
+use Rattle.editor.proofs.Laws.Outcomes.{accepted}
 use Rattle.editor.proofs.Laws.States.{side-with, on-side-twice, sound-fits}
-
-put-nothing : (d : Doc) → splice 0 0 empty d ≡ d
-put-nothing d = insertions empty d ∙ same-texts (append-nil (d .l)) refl
+use Rattle.editor.proofs.Theorems.Refusals.{key-unsound, refused-full, done-otherwise}
+use Rattle.editor.proofs.Theorems.Sessions.{opening-sound, keys-keep}
 
 -- What n deletions removed, put around the cursor again, gives the text back.
 put-back : (way : Direction) (n : ℕ) (d : Doc) → splice 0 0 (removed way n d) (times (delete way) n d) ≡ d
@@ -31,23 +38,71 @@ put-back Right n d =
     ap (λ e. splice 0 0 (removed Right n d) e) (deletions-right n d) ∙ insertions (removed Right n d) (splice 0 n empty d)
     ∙ same-texts (simp (append-nil, sub-zero, take-length)) (take-append-drop n (d .r))
 
--- RECALL straight after a deletion: the text is as it was, cursor included, and the recall text is what the deletion made it.
--- That holds with the bell too, for then nothing was removed.
-recall-carried : (way : Direction) (search : Search) (s : Side)
+-- ---- The bell
+
+-- A function key that rings has found no place, and text and recall text stay as they were. (02, M-103: in QUOTED too.)
+carried-rings : (action : Action) (way : Direction) (search : Search) (s : Side) → carried action way search s .report .bell ≡ true
+    → carried action way search s .state ≡ s
+unfolding carried
+carried-rings Move way (Reached n) s bell = absurd (false≢true bell)
+carried-rings Move way Nowhere s bell = refl
+carried-rings Delete way (Reached n) s bell = absurd (false≢true bell)
+carried-rings Delete way Nowhere s bell = refl
+
+same-side : (mode : Mode) (p : Plain) → withSide mode (sideOf mode p) p ≡ p
+same-side Main p = refl
+same-side Quoted p = refl
+
+pub function-rings : (T Q : ℕ) (action : Action) (way : Direction) (place : Place) (p : Plain) (did : Did Plain)
+    → key T Q (Function action way place) p ≡ done did → did .report .bell ≡ true → did .state ≡ p
+unfolding pressed onSide function
+function-rings T Q action way place p did e bell =
+    let (ok, room, same) = accepted T Q (Function action way place) p did .0 e in
+    let s = sideOf (p .mode) p in
+    ap (λ d. d .state) (sym same)
+    ∙ (ap (λ s. withSide (p .mode) s p)
+    (carried-rings action way (distance way (isAt place way) (s .text)) s (ap (λ d. d .report .bell) same ∙ bell))
+    ∙ same-side (p .mode) p)
+
+-- What RECALL does anyhow.
+pub recall-does : (p : Plain) → pressed Recall p ≡ reporting quiet (recallPutIn p)
+unfolding pressed onSide recalled
+recall-does p =
+    let s = sideOf (p .mode) p in
+    λ i. reporting quiet (withSide (p .mode) (record { text = insertions (s .recall) (s .text) i; recall = s .recall }) p)
+
+pub recall-sound : ¬ Unsound Recall
+unfolding soundKey
+recall-sound bad = clash refl (key-unsound Recall .1 bad)
+
+pub recall-refused : (T Q : ℕ) (p : Plain) → (key T Q Recall p ≡ refused FULL) ↔ Exceeds T Q (recallPutIn p)
+recall-refused T Q p =
+    let so = ap (λ d. d .state) (recall-does p) in (
+      λ e. subst (Exceeds T Q) so (refused-full T Q Recall p .0 e .1),
+      λ over. refused-full T Q Recall p .1 (recall-sound, subst⁻¹ (Exceeds T Q) so over),
+    )
+
+pub recall-done : (T Q : ℕ) (p : Plain) → (key T Q Recall p ≡ done (reporting quiet (recallPutIn p))) ↔ (¬ Exceeds T Q (recallPutIn p))
+recall-done T Q p =
+    let so = ap (λ d. d .state) (recall-does p) in (
+      λ e. λ over. done-otherwise T Q Recall p .0 (e ∙ ap done (sym (recall-does p))) .1 (subst⁻¹ (Exceeds T Q) so over),
+      λ short. done-otherwise T Q Recall p .1 (recall-sound, λ over. short (subst (Exceeds T Q) so over)) ∙ ap done (recall-does p),
+    )
+
+-- ---- A deletion that found its place
+
+-- RECALL straight after it: the text is as it was, cursor included, and the recall text is what the deletion made it.
+recall-carried : (way : Direction) (search : Search) (s : Side) → 1 ≤ carried Delete way search s .report .steps
     → recalled (carried Delete way search s .state) ≡ reporting quiet (record { text = s .text; recall = carried Delete way search s .state .recall })
 unfolding recalled carried
-recall-carried way (Reached n) s = λ i. reporting quiet (record { text = put-back way n (s .text) i; recall = removed way n (s .text) })
-recall-carried way Nowhere s = λ i. reporting quiet (record { text = put-nothing (s .text) i; recall = empty })
+recall-carried way (Reached n) s some = λ i. reporting quiet (record { text = put-back way n (s .text) i; recall = removed way n (s .text) })
+recall-carried way Nowhere s some = absurd (omega (arith, some))
 
-pub recall-after-deletion : (way : Direction) (place : Place) (s : Side)
+pub recall-after-deletion : (way : Direction) (place : Place) (s : Side) → 1 ≤ function Delete way place s .report .steps
     → recalled (function Delete way place s .state)
     ≡ reporting quiet (record { text = s .text; recall = function Delete way place s .state .recall })
 unfolding function
-recall-after-deletion way place s = recall-carried way (distance way (isAt place way) (s .text)) s
-
--- The state with the text as it is and another recall text.
-abbrev pub withRecall : Doc → Plain → Plain
-withRecall recall p = withSide (p .mode) (record { text = sideOf (p .mode) p .text; recall = recall }) p
+recall-after-deletion way place s some = recall-carried way (distance way (isAt place way) (s .text)) s some
 
 fits-with-recall : (T Q : ℕ) (recall : Doc) (p : Plain) → fits T Q (withRecall recall p) ≡ fits T Q p
 unfolding fits
@@ -58,29 +113,51 @@ fits-with-recall T Q recall p = go (p .mode)
     go Quoted = refl
 
 recalled-state : (way : Direction) (place : Place) (p : Plain)
-    → let after = onSide (function Delete way place) p .state in
-    onSide recalled after ≡ reporting quiet (withRecall (sideOf (p .mode) after .recall) p)
+    → let after = onSide (function Delete way place) p in 1 ≤ after .report .steps
+    → onSide recalled (after .state) ≡ reporting quiet (withRecall (sideOf (p .mode) (after .state) .recall) p)
 unfolding onSide
-recalled-state way place p =
+recalled-state way place p some =
     let s = sideOf (p .mode) p in
     rw (side-with (p .mode) (function Delete way place s .state) p)
     (on-side-twice (function Delete way place) recalled p
-    ∙ ap (λ d. within (λ s. withSide (p .mode) s p) d) (recall-after-deletion way place s))
+    ∙ ap (λ d. within (λ s. withSide (p .mode) s p) d) (recall-after-deletion way place s some))
 
--- The same at the level of keys, in a session: RECALL is not refused, and it leads back to the text and cursor before the
--- deletion. Only the recall text is another: that of the deletion.
-pub recall-restores : (T Q : ℕ) (way : Direction) (place : Place) (p : Plain) (did : Did Plain) → SoundPlain T Q p
+module _ (T Q : ℕ) (way : Direction) (place : Place) (p : Plain) (did : Did Plain) (e : key T Q (Function Delete way place) p ≡ done did) where
+  -- The same at the level of keys, in a session: where the deletion reported steps above 0, RECALL is not refused, and it leads back to the
+  -- text and cursor before the deletion. Only the recall text is another: that of the deletion.
+  pub recall-restores : SoundPlain T Q p → 1 ≤ did .report .steps
+      → key T Q Recall (did .state) ≡ done (reporting quiet (withRecall (sideOf (p .mode) (did .state) .recall) p))
+  unfolding pressed soundKey
+  recall-restores sound some =
+      let (ok, room, same) = accepted T Q (Function Delete way place) p did .0 e in
+      let after = onSide (function Delete way place) p in
+      let recall = sideOf (p .mode) (after .state) .recall in
+      let back = recalled-state way place p (rw (← same) at some) in
+      rw (← same)
+      (accepted T Q Recall (after .state) (reporting quiet (withRecall recall p)) .1
+      (refl, ap (λ d. fits T Q (d .state)) back ∙ fits-with-recall T Q recall p ∙ sound-fits T Q p sound, back))
+
+  -- With the bell it does what it would have done before the deletion: the older recall text goes in, or it is refused as FULL, which is
+  -- exactly when the finished text would not fit.
+  pub recall-older-refused : did .report .bell ≡ true → (key T Q Recall (did .state) ≡ refused FULL) ↔ Exceeds T Q (recallPutIn p)
+  recall-older-refused bell = rw (function-rings T Q Delete way place p did e bell) (recall-refused T Q p)
+
+  pub recall-older-done : did .report .bell ≡ true
+      → (key T Q Recall (did .state) ≡ done (reporting quiet (recallPutIn p))) ↔ (¬ Exceeds T Q (recallPutIn p))
+  recall-older-done bell = rw (function-rings T Q Delete way place p did e bell) (recall-done T Q p)
+
+-- Without the steps this is false, and was true before M-103. At a| a deletion to the right takes the a away; one to the left then rings, and
+-- RECALL puts the a back.
+abbrev taken : Plain
+taken = keys 1 1 (Function Delete Right Character ∷ []) (opening (97 ∷ []))
+
+pub restores-not-always : ¬ ((T Q : ℕ) (way : Direction) (place : Place) (p : Plain) (did : Did Plain) → SoundPlain T Q p
     → key T Q (Function Delete way place) p ≡ done did
-    → key T Q Recall (did .state) ≡ done (reporting quiet (withRecall (sideOf (p .mode) (did .state) .recall) p))
-unfolding pressed soundKey
-recall-restores T Q way place p did sound e =
-    let (ok, room, same) = accepted T Q (Function Delete way place) p did .0 e in
-    let after = onSide (function Delete way place) p .state in
-    let recall = sideOf (p .mode) after .recall in
-    let back = recalled-state way place p in
-    rw (← same)
-    (accepted T Q Recall after (reporting quiet (withRecall recall p)) .1
-    (refl, ap (λ d. fits T Q (d .state)) back ∙ fits-with-recall T Q recall p ∙ sound-fits T Q p sound, back))
+    → key T Q Recall (did .state) ≡ done (reporting quiet (withRecall (sideOf (p .mode) (did .state) .recall) p)))
+unfolding every move delete times passed removed splice nearest distance isAt soundKey carried function recalled onSide pressed fits bounded key keys
+restores-not-always claim =
+    let sound = keys-keep 1 1 (Function Delete Right Character ∷ []) (opening (97 ∷ [])) (opening-sound 1 1 1 (97 ∷ []) (omega arith) refl) in
+    omega (arith, ap (λ o. length (content (after taken o .main .text))) (claim 1 1 Left Character taken (reporting rang taken) sound refl))
 
 -- A move of one side keeps its content, wherever its search ends.
 moved-keeps : (way : Direction) (search : Search) (s : Side) → content (carried Move way search s .state .text) ≡ content (s .text)

@@ -8,7 +8,7 @@ use mathlib.Core.Path.{_≡_}
 use mathlib.Core.Logic.{_⊎_}
 use Prim.Native.Nat.{_<_}
 use Rattle.gap.specs.Rules.Sequence.{begins}
-use Rattle.gap.specs.Rules.Doc.{Doc, empty, content, move, delete, times, removed, splice}
+use Rattle.gap.specs.Rules.Doc.{Doc, content, move, delete, times, removed, splice}
 use Rattle.gap.specs.Rules.Nearest.{distance}
 use Rattle.gap.specs.Rules.Layout.{allowed}
 use Rattle.editor.specs.Rules.Places.{isAt}
@@ -44,14 +44,15 @@ soundKey Replace = true
 unfoldable pub inserted : ℕ → Side → Did Side
 inserted b s = reporting quiet (record { text = splice 0 0 (record { l = b ∷ []; r = [] }) (s .text); recall = s .recall })
 
--- A function key at its distance: that many single steps. A deletion leaves what it took as recall text, even where it took nothing;
--- a move leaves the recall text alone. Nowhere rings. (01, plain editor: distance, recall text. DECISIONS B4, B30.)
+-- A function key at its distance: that many single steps. A deletion leaves what it took as recall text; a move leaves the recall text
+-- alone. Nowhere rings, and text and recall text stay. (01, plain editor: distance, recall text. 02, M-103: with the bell, in place of
+-- 01's empty pair. DECISIONS B4, B30.)
 unfoldable pub carried : Action → Direction → Search → Side → Did Side
 carried Move way (Reached n) s = reporting (went n) (record { text = times (move way) n (s .text); recall = s .recall })
 carried Move way Nowhere s = reporting rang s
 carried Delete way (Reached n) s =
     reporting (went n) (record { text = times (delete way) n (s .text); recall = removed way n (s .text) })
-carried Delete way Nowhere s = reporting rang (record { text = s .text; recall = empty })
+carried Delete way Nowhere s = reporting rang s
 
 unfoldable pub function : Action → Direction → Place → Side → Did Side
 function action way place s = carried action way (distance way (isAt place way) (s .text)) s

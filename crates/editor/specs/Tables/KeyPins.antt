@@ -96,9 +96,11 @@ editPins =
     ∷ example "abc de\nf|gh ijk\nlm" (deleteRight LineEnding ∷ []) (Goes 6 ∷ Text "abc de\nf|\nlm" ∷ Recalls "|gh ijk" ∷ [])
     ∷ example "abc de\nf|gh ijk\nlm" (deleteRight Document ∷ []) (Goes 9 ∷ Text "abc de\nf|" ∷ Recalls "|gh ijk\nlm" ∷ [])
     ∷ [])
-    ∷ sentence "every deletion sets the recall text; one that finds no place sets it to the empty pair"
+    ∷ sentence "every deletion with steps sets the recall text; one with the bell leaves it unchanged (M-103)"
     (example "ab|c" (deleteLeft Character ∷ deleteRight Character ∷ []) (Goes 1 ∷ Text "a|" ∷ Recalls "|c" ∷ [])
-    ∷ example "ab|" (deleteLeft Character ∷ deleteRight Character ∷ []) (Rings ∷ Text "a|" ∷ Recalls "|" ∷ [])
+    ∷ example "ab|" (deleteLeft Character ∷ deleteRight Character ∷ []) (Rings ∷ Text "a|" ∷ Recalls "b|" ∷ [])
+    ∷ example "|ab" (deleteRight Word ∷ deleteRight Document ∷ deleteLeft Word ∷ []) (Rings ∷ Text "|" ∷ Recalls "|ab" ∷ [])
+    ∷ example "|" (deleteLeft Word ∷ []) (Rings ∷ Text "|" ∷ Recalls "|" ∷ [])
     ∷ [])
     ∷ sentence "moves keep the recall text, also those that ring"
     (example "ab|c" (deleteLeft Character ∷ moveRight Character ∷ []) (Goes 1 ∷ Text "ac|" ∷ Recalls "b|" ∷ [])

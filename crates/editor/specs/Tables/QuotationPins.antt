@@ -26,6 +26,12 @@ quotationPins =
     ∷ example "ab|" (deleteLeft Character ∷ quoting "x" (deleteRight Character))
     (Rings ∷ Quotation "x|" ∷ ItsRecalls "|" ∷ Text "a|" ∷ Recalls "b|" ∷ [])
     ∷ [])
+    ∷ sentence "in QUOTED too a deletion with the bell leaves the recall text unchanged (M-103)"
+    (example "ab|" (deleteLeft Character ∷ quoting "xy" (deleteLeft Character) ++ (deleteRight Character ∷ []))
+    (Rings ∷ Quotation "x|" ∷ ItsRecalls "y|" ∷ Text "a|" ∷ Recalls "b|" ∷ [])
+    ∷ example "ab|" (deleteLeft Character ∷ quoting "xy" (deleteLeft Character) ++ (deleteRight Character ∷ Recall ∷ []))
+    (Goes 0 ∷ Quotation "xy|" ∷ ItsRecalls "y|" ∷ Text "a|" ∷ Recalls "b|" ∷ [])
+    ∷ [])
     ∷ sentence "the document's T does not bound the quotation"
     (exampleIn 1 "a|" (quoting "xy" (Insert 122)) (Goes 0 ∷ Quotation "xyz|" ∷ Text "a|" ∷ []) ∷ [])
     ∷ []

@@ -15,7 +15,7 @@ use Rattle.editor.specs.Rules.Bytes.{quarter, sized, plainOf, lengthsOf, stores
 use Rattle.window.specs.Rules.Window.{virtualIn, rowCells, joined, window, visible, policy}
 use Rattle.window.specs.Rules.Rows.{firstRow, lastRow}
 use Rattle.window.specs.Rules.Core.{tabled, isSession, openedText, opened, shown, finished, keyed}
-use Rattle.window.specs.Tables.Table.{pressing, moving, outcome, holds, allHold, right, edges}
+use Rattle.window.specs.Tables.Table.{pressing, moving, outcome, holds, allHold, right, edges, requested}
 
 pub edges-right : right edges ≡ true
 unfolding every sameBytes begins part zeros counted move delete times passed splice nearest distance newlines sinceAfter lines gapped paired
@@ -24,3 +24,12 @@ unfolding every sameBytes begins part zeros counted move delete times passed spl
     lengthsOf storesOf editorOk virtualIn rowCells joined window visible policy firstRow lastRow tabled isSession openedText opened shown
     finished keyed bytes markedAfter pressing moving outcome holds allHold right
 edges-right = refl
+
+-- So do they with what the change requests tell of.
+pub requests-right : right requested ≡ true
+unfolding every sameBytes begins part zeros counted move delete times passed splice nearest distance newlines sinceAfter lines gapped paired
+    ungap unpair soundGap soundPair lineBeginning lineEnding word documentEnd isAt soundKey inserted removed carried function recalled
+    onSide quoted withPattern searched found withReplacement exchanged substituted replaced pressed fits bounded key quarter sized plainOf
+    lengthsOf storesOf editorOk virtualIn rowCells joined window visible policy firstRow lastRow tabled isSession openedText opened shown
+    finished keyed bytes markedAfter pressing moving outcome holds allHold right
+requests-right = refl

@@ -1,5 +1,6 @@
 -- The edges that document 01 marks with P, as one table. Each row opens a text on bytes, brings the cursor to its mark by moves,
--- presses the keys, and states facts about the last call. proofs/Theorems/Edges shows that the definitions give each of them.
+-- presses the keys, and states facts about the last call. proofs/Theorems/Edges shows that the definitions give each of them. Behind it, in
+-- the same form, what the change requests tell of.
 use Rattle.window.specs.Words.{List, [], _∷_, _++_, map, Bool, true, false, _&&_, ℕ, zero, suc, _-_, _*_, eqb, length}
 use Rattle.window.specs.Words.{Left, Right, Move, Delete, Character, Word, LineBeginning, LineEnding, Document}
 use Rattle.window.specs.Words.{Key, Insert, Function, Recall, Quote, Find, Replace}
@@ -125,3 +126,14 @@ edges =
       facts = Code 0 ∷ Shows 1 "a   " ∷ Shows 2 ">   " ∷ Cursor 2 1 ∷ Named 1 2 ∷ [];
     }
     ∷ []))
+
+-- What the change requests tell of, in the same form. M-103: an operator deleted a series, pressed delete-word once more at the top of the
+-- deck, and RECALL gave nothing; now it gives the series back.
+abbrev pub deleteSeries : List Key
+deleteSeries = Function Delete Left Document ∷ Function Delete Left Word ∷ []
+
+abbrev pub requested : List Edge
+requested =
+    usual "1 2 3\n|4 5" deleteSeries (Code 0 ∷ Text "|4 5" ∷ Steps 0 ∷ Bell true ∷ [])
+    ∷ usual "1 2 3\n|4 5" (deleteSeries ++ (Recall ∷ [])) (Code 0 ∷ Text "1 2 3\n|4 5" ∷ Steps 0 ∷ Bell false ∷ [])
+    ∷ []

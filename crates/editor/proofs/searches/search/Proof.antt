@@ -2,9 +2,9 @@
 use mathlib.Core.Path.{refl}
 use native.Mathlib.Omega.{arith}
 use borrow.Author.Needs.{needs}
-use Rattle.editor.specs.Words.{Main}
+use Rattle.editor.specs.Words.{Move, Main}
 use Rattle.editor.specs.Rules.Bytes.{quarter}
-use Rattle.editor.proofs.Laws.SideEdits.{not-moved, within-room}
+use Rattle.editor.proofs.Laws.SideEdits.{not-carried, within-room}
 use Rattle.editor.proofs.Laws.Replies.{on-side}
 use Rattle.editor.proofs.Laws.FindReplace.{search-done}
 use Rattle.editor.proofs.searches.search.Statement.{statement}
@@ -32,7 +32,7 @@ unfolding quarter
 returns c =
     let rung : tie.After-edited = search in let told : tie.After-enum-told = search in let found : tie.After-match-distance = search in
     λ recall sound. search-done quarter _ _ sound _ _ _ (found .match-distance .ensures) (told .enum-told .given .1) _ _ _ _ (rung .edited .ensures)
-    (not-moved (on-side quarter _ _ sound Main) _ refl refl)
+    (not-carried (on-side quarter _ _ sound Main) Move _ refl refl)
 
 move-side-requires : tie.Need-move-side-requires
 move-side-requires c κs =

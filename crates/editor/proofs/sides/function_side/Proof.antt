@@ -1,14 +1,16 @@
--- `function_side`: the distance that was found is the key's own, and within the room.
+-- `function_side`: the distance that was found is the key's own, and within the room; where there is none, everything stays.
+use mathlib.Core.Path.{refl}
 use borrow.Author.Needs.{needs}
-use Rattle.editor.proofs.Laws.SideEdits.{by-distance, within-room}
+use Rattle.editor.proofs.Laws.SideEdits.{by-distance, within-room, not-carried}
 use Rattle.editor.proofs.sides.function_side.Statement.{statement}
 use Rattle.editor.proofs.sides.function_side.Tie as tie
 
 returns : tie.Need-returns
 returns c =
-    let rung : tie.After-bell-side = search in let told : tie.After-enum-told = search in
+    let rung : tie.After-done = search in let told : tie.After-enum-told = search in
     let found : tie.After-place-distance = search in let start : tie.Start = search in
-    by-distance (start .pre) _ _ _ (found .place-distance .ensures) (told .enum-told .given .1) (rung .bell-side .ensures)
+    by-distance (start .pre) _ _ _ (found .place-distance .ensures) (told .enum-told .given .1)
+    (not-carried (start .pre) _ _ (rung .done .ensures) refl)
 
 carry-side-requires : tie.Need-carry-side-requires
 carry-side-requires c κs =
@@ -26,8 +28,8 @@ function-side-spec = tie.close (tie.spec
     (λ c κs. search needs)  -- place-distance-requires
     (λ c. search needs)  -- enum-known-d
     (λ c. search needs)  -- enum-told
-    (λ c κs. search needs)  -- bell-side-requires
-    (λ c. search needs) (λ c. search needs)  -- same-length .. same-length-2
+    (λ c κs. search needs)  -- done-requires
+    (λ c. search needs)  -- same-length
     returns carry-side-requires
-    (λ c. search needs) (λ c. search needs)  -- same-length-3 .. same-length-4
+    (λ c. search needs) (λ c. search needs)  -- same-length-2 .. same-length-3
     returns-2)
