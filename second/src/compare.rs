@@ -37,6 +37,8 @@ pub struct Codes {
     pub bells: usize,
     /// Deletions with the bell, where there was recall text to keep.
     pub kept: usize,
+    /// Answers with lines crossed.
+    pub crossed: usize,
     pub quoted: usize,
 }
 
@@ -45,6 +47,7 @@ impl Codes {
         // A wrong code is a difference, and never comes this far.
         self.codes[answer.code] += 1;
         self.bells += answer.bell;
+        self.crossed += (answer.lines > 0) as usize;
         let Kind::Key { record, numbers } = call.kind else { return };
         let quoted = record.mode == 1;
         self.quoted += quoted as usize;
@@ -56,10 +59,11 @@ impl Codes {
 
 impl std::fmt::Display for Codes {
     fn fmt(&self, f: &mut std::fmt::Formatter) -> std::fmt::Result {
-        let names = ["accepted", "SIZE", "LONG", "TEXT", "SESSION", "KEY", "FULL", "ROOM", "bell", "recall text kept", "in QUOTED"];
-        let counts = self.codes.into_iter().chain([self.bells, self.kept, self.quoted]);
+        let names = ["accepted", "SIZE", "LONG", "TEXT", "SESSION", "KEY", "FULL", "ROOM"];
+        let names = names.iter().chain(&["bell", "recall text kept", "lines crossed", "in QUOTED"]);
+        let counts = self.codes.into_iter().chain([self.bells, self.kept, self.crossed, self.quoted]);
         let shown: Vec<String> =
-            names.iter().zip(counts).filter(|(_, count)| *count > 0).map(|(name, count)| format!("{name} {count}")).collect();
+            names.zip(counts).filter(|(_, count)| *count > 0).map(|(name, count)| format!("{name} {count}")).collect();
         write!(f, "{}: {}", self.codes.iter().sum::<usize>(), shown.join(", "))
     }
 }

@@ -19,6 +19,7 @@ pub struct Answer {
     pub code: usize,
     pub place: usize,
     pub steps: usize,
+    pub lines: usize,
     pub bell: usize,
     pub first: usize,
     pub last: usize,
@@ -90,6 +91,7 @@ impl Core for Second {
                 let offsets = Offsets { r: given.top, c: given.left };
                 let mut reply = finish(&pressed.editor, offsets, h, w, stores);
                 reply.answer.steps = pressed.steps;
+                reply.answer.lines = pressed.lines;
                 reply.answer.bell = pressed.bell as usize;
                 reply
             }

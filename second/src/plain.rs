@@ -1,5 +1,6 @@
-//! The plain editor (01, "The plain editor"; 001, sections 1.1 to 1.5): two sequences, places, distances by trying each d, keys.
-//! Nothing here knows of stores or screens. A key works on texts without bound; only the finished text is held against its room.
+//! The plain editor (01, "The plain editor"; 02, M-103, M-104; 001, sections 1.1 to 1.5): two sequences, places, distances by trying
+//! each d, keys. Nothing here knows of stores or screens. A key works on texts without bound; only the finished text is held against
+//! its room.
 
 use std::collections::VecDeque;
 
@@ -123,14 +124,25 @@ pub fn is_place(doc: &Doc, direction: Direction, place: Place) -> bool {
     }
 }
 
-/// The least d > 0 such that d moves reach what is wanted; none where no d does.
-fn distance(doc: &Doc, direction: Direction, reached: impl Fn(&Doc) -> bool) -> Option<usize> {
+/// How far a key went: the steps it reports, and the lines crossed beside them (02, M-104).
+#[derive(Clone, Copy, Debug, Default, PartialEq, Eq)]
+pub struct Went {
+    pub steps: usize,
+    pub lines: usize,
+}
+
+/// The least d > 0 such that d moves reach what is wanted, and "the number of newlines it passes, defined over the same d steps"
+/// (02, M-104); none where no d does.
+fn distance(doc: &Doc, direction: Direction, reached: impl Fn(&Doc) -> bool) -> Option<Went> {
     let mut there = doc.clone();
-    let mut d = 0;
-    while there.step(Action::Move, direction).is_some() {
-        d += 1;
+    let mut went = Went::default();
+    while let Some(byte) = there.step(Action::Move, direction) {
+        went.steps += 1;
+        if byte == NEWLINE {
+            went.lines += 1;
+        }
         if reached(&there) {
-            return Some(d);
+            return Some(went);
         }
     }
     None
@@ -179,6 +191,7 @@ impl Editor {
 pub struct Pressed {
     pub editor: Editor,
     pub steps: usize,
+    pub lines: usize,
     pub bell: bool,
 }
 
@@ -188,7 +201,7 @@ pub fn press(before: &Editor, key: Key, t: usize) -> Result<Pressed, Refusal> {
         return Err(Refusal::Key);
     }
     let mut editor = before.clone();
-    let mut went = Some(0);
+    let mut went = Some(Went::default());
     match key {
         Key::Insert(byte) => editor.current().text.l.push(byte),
         Key::Function(action, direction, place) => went = function(editor.current(), action, direction, place),
@@ -206,7 +219,9 @@ pub fn press(before: &Editor, key: Key, t: usize) -> Result<Pressed, Refusal> {
     if editor.main.text.length() > t || editor.quoted.text.length() > QUARTER {
         return Err(Refusal::Full);
     }
-    Ok(Pressed { editor, steps: went.unwrap_or(0), bell: went.is_none() })
+    // Steps and lines are 0 with the bell.
+    let Went { steps, lines } = went.unwrap_or_default();
+    Ok(Pressed { editor, steps, lines, bell: went.is_none() })
 }
 
 /// A byte that isn't allowed, and the two of the 20 function keys that are left out.
@@ -219,11 +234,11 @@ fn refused(key: Key) -> bool {
     }
 }
 
-/// The steps made; none is the bell, and "a deletion with the bell now leaves recall text unchanged, in QUOTED too" (02, M-103).
-fn function(edited: &mut Edited, action: Action, direction: Direction, place: Place) -> Option<usize> {
-    let d = distance(&edited.text, direction, |doc| is_place(doc, direction, place))?;
+/// How far it went; none is the bell, and "a deletion with the bell now leaves recall text unchanged, in QUOTED too" (02, M-103).
+fn function(edited: &mut Edited, action: Action, direction: Direction, place: Place) -> Option<Went> {
+    let went = distance(&edited.text, direction, |doc| is_place(doc, direction, place))?;
     let mut gone = Vec::new();
-    for _ in 0..d {
+    for _ in 0..went.steps {
         gone.extend(edited.text.step(action, direction));
     }
     if action == Action::Delete {
@@ -233,22 +248,23 @@ fn function(edited: &mut Edited, action: Action, direction: Direction, place: Pl
             Direction::Right => Doc { l: Vec::new(), r: gone.into() },
         };
     }
-    Some(d)
+    Some(went)
 }
 
-fn find(editor: &mut Editor, direction: Direction) -> Option<usize> {
+fn find(editor: &mut Editor, direction: Direction) -> Option<Went> {
     if editor.mode == Mode::Quoted {
         editor.pattern = editor.quoted.text.content();
         editor.leave_quotation();
     }
-    let d = distance(&editor.main.text, direction, |doc| doc.begins_with(&editor.pattern))?;
-    for _ in 0..d {
+    let went = distance(&editor.main.text, direction, |doc| doc.begins_with(&editor.pattern))?;
+    for _ in 0..went.steps {
         editor.main.text.step(Action::Move, direction);
     }
-    Some(d)
+    Some(went)
 }
 
-fn replace(editor: &mut Editor) -> Option<usize> {
+/// REPLACE reports 0.
+fn replace(editor: &mut Editor) -> Option<Went> {
     if editor.mode == Mode::Quoted {
         editor.replacement = editor.quoted.text.clone();
         editor.leave_quotation();
@@ -259,5 +275,5 @@ fn replace(editor: &mut Editor) -> Option<usize> {
     editor.main.text.r.drain(..editor.pattern.len());
     editor.main.text.join(&editor.replacement);
     editor.main.recall = Doc::new(&[], &editor.pattern);
-    Some(0)
+    Some(Went::default())
 }

@@ -1,4 +1,5 @@
-//! The bench program (01, "The bench program"; readings, A1 to A17): its input read line by line, its output byte for byte.
+//! The bench program (01, "The bench program"; 02, M-104; readings, A1 to A17, C21): its input read line by line, its output byte for
+//! byte.
 
 use crate::bytes::{Stores, LARGEST_H, LARGEST_W};
 use crate::core::{numbers_of, Core, Reply};
@@ -149,6 +150,7 @@ fn print_block(output: &mut Vec<u8>, reply: &Reply, stores: &Stores, w: usize) {
         return print(output, "place", answer.place);
     }
     print(output, "steps", answer.steps);
+    print(output, "lines", answer.lines);
     print(output, "bell", answer.bell);
     print(output, "first", answer.first);
     print(output, "last", answer.last);

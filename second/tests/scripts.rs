@@ -1,18 +1,18 @@
-//! The bench program: document 01's sample, and the readings A1 to A17.
+//! The bench program: document 01's sample with M-104's `lines=` in each block, and the readings A1 to A17 and C21.
 
 use second::core::Second;
 use second::script::run;
 
 const SAMPLE: &str = "rows=2\ncols=4\nstore=16\ntext=11\na=1\nbb=22\nc\nkey=move-left-line-end\nkey=move-right-line-end\n";
 const BLOCKS: [&str; 3] = [
-    "code=0\nsteps=0\nbell=0\nfirst=1\nlast=2\nrow=1\ncol=0\nline=a=1 \nline=bb=2\n",
-    "code=0\nsteps=0\nbell=1\nfirst=0\nlast=0\nrow=1\ncol=0\nline=a=1 \nline=bb=2\n",
-    "code=0\nsteps=3\nbell=0\nfirst=0\nlast=0\nrow=1\ncol=3\nline=a=1 \nline=bb=2\n",
+    "code=0\nsteps=0\nlines=0\nbell=0\nfirst=1\nlast=2\nrow=1\ncol=0\nline=a=1 \nline=bb=2\n",
+    "code=0\nsteps=0\nlines=0\nbell=1\nfirst=0\nlast=0\nrow=1\ncol=0\nline=a=1 \nline=bb=2\n",
+    "code=0\nsteps=3\nlines=0\nbell=0\nfirst=0\nlast=0\nrow=1\ncol=3\nline=a=1 \nline=bb=2\n",
 ];
 /// An opening of nothing on one cell, and its block.
 const NOTHING: &str = "rows=1\ncols=1\nstore=1\ntext=0\n\n";
-const OPENED: &str = "code=0\nsteps=0\nbell=0\nfirst=1\nlast=1\nrow=1\ncol=0\nline= \n";
-const QUOTED: &str = "code=0\nsteps=0\nbell=0\nfirst=1\nlast=1\nrow=1\ncol=1\nline=>\n";
+const OPENED: &str = "code=0\nsteps=0\nlines=0\nbell=0\nfirst=1\nlast=1\nrow=1\ncol=0\nline= \n";
+const QUOTED: &str = "code=0\nsteps=0\nlines=0\nbell=0\nfirst=1\nlast=1\nrow=1\ncol=1\nline=>\n";
 
 fn gives(input: impl AsRef<[u8]>, output: impl AsRef<str>) {
     let (input, output) = (input.as_ref(), output.as_ref());
@@ -80,7 +80,7 @@ fn the_longest_input() {
     // 907 keys come to 8,193 bytes; without the last newline they are as long as an input may be.
     let input = NOTHING.to_string() + &"key=find\n".repeat(907);
     assert_eq!(input.len(), 8_193);
-    let rung = "code=0\nsteps=0\nbell=1\nfirst=0\nlast=0\nrow=1\ncol=0\nline= \n";
+    let rung = "code=0\nsteps=0\nlines=0\nbell=1\nfirst=0\nlast=0\nrow=1\ncol=0\nline= \n";
     gives(input.trim_end(), OPENED.to_string() + &rung.repeat(907));
     gives(input, "script=0\n");
     gives("x".repeat(8_193), "script=0\n");

@@ -56,18 +56,18 @@ pub fn put_accepted(a: Answer, h: usize, w: usize, screen: &[u8], out: &mut [u8]
     ensures { λ n. ⌜ Wrote 0 (acceptedBlock h w a (now (screen .entry))) (now (out .entry)) n (now (out .exit)) ⌝ }
 {
     let report = a.report;
-    let steps_at = put_entry(b"code=", 0, out, 0);
+    let lines_at = put_two(b"code=", 0, b"steps=", report.steps, out, 0);
     let first_at = put_two(
-        b"steps=",
-        report.steps,
+        b"lines=",
+        report.lines,
         b"bell=",
         bit_of(report.bell),
         out,
-        steps_at,
+        lines_at,
     );
     let row_at = put_two(b"first=", a.first, b"last=", a.last, out, first_at);
-    let lines_at = put_two(b"row=", a.row, b"col=", a.column, out, row_at);
-    put_rows(h, w, screen, out, lines_at)
+    let rows_at = put_two(b"row=", a.row, b"col=", a.column, out, row_at);
+    put_rows(h, w, screen, out, rows_at)
 }
 
 // The block of a refused call.

@@ -6,6 +6,7 @@ pub mod Session
 pub mod Outcomes
 pub mod Sides
 pub mod SideEdits
+pub mod Passages
 pub mod States
 pub mod MatchTests
 pub mod MatchScans

@@ -3,4 +3,5 @@ pub mod Places
 pub mod Sessions
 pub mod Refusals
 pub mod Recall
+pub mod LinesCrossed
 pub mod Pins

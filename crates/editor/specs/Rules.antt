@@ -1,6 +1,7 @@
 -- What a reader must believe, in reading order. docs/RULES.md has the same rules in prose.
 pub mod Refusals
 pub mod Places
+pub mod Passages
 pub mod Plain
 pub mod Keys
 pub mod Bytes

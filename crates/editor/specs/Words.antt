@@ -7,11 +7,12 @@ pub use lib.ListN.{length, take, drop}
 pub use Rattle.gap.specs.declared.Direction.{Direction}
 pub use Rattle.gap.specs.declared.Direction.the-variants.{Left, Right}
 pub use Rattle.gap.specs.declared.Search.{Search}
-pub use Rattle.gap.specs.declared.Search.the-variants.{Reached, Nowhere}
 pub use Rattle.editor.specs.declared.Action.{Action}
 pub use Rattle.editor.specs.declared.Action.the-variants.{Move, Delete}
 pub use Rattle.editor.specs.declared.Place.{Place}
 pub use Rattle.editor.specs.declared.Place.the-variants.{Character, Word, LineBeginning, LineEnding, Document}
+pub use Rattle.editor.specs.declared.Passage.{Passage}
+pub use Rattle.editor.specs.declared.Passage.the-variants.{Reached, Nowhere}
 pub use Rattle.editor.specs.declared.Neighbour.{Neighbour}
 pub use Rattle.editor.specs.declared.Neighbour.the-variants.{Nothing, Space, Newline, Other}
 pub use Rattle.editor.specs.declared.Mode.{Mode}

@@ -1,6 +1,7 @@
 // The editor layer: keys on a document, a quotation and their recall texts, without a screen.
 pub mod finds;
 pub mod keys;
+pub mod passages;
 pub mod places;
 pub mod quotations;
 pub mod records;
@@ -32,6 +33,12 @@ pub enum Neighbour {
     Space,
     Newline,
     Other,
+}
+
+// What a search for a place answers: how many moves away it is and how many newlines these pass, or that there is none.
+pub enum Passage {
+    Reached(usize, usize),
+    Nowhere,
 }
 
 // Which text the keys act on: the document or the quotation.
@@ -79,9 +86,10 @@ pub struct Lengths {
     pub mode: Mode,
 }
 
-// What a key reports: its steps and its bell.
+// What a key reports: its steps, the newlines that these pass, and its bell.
 pub struct Report {
     pub steps: usize,
+    pub lines: usize,
     pub bell: bool,
 }
 

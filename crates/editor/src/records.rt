@@ -19,21 +19,24 @@ ghost use Rattle.editor.specs.Wording.Promise.{patternTaken, replacement
 // Nothing to say.
 pub const QUIET: Report = Report {
     steps: 0,
+    lines: 0,
     bell: false,
 };
 
 // Nothing found.
 pub const RANG: Report = Report {
     steps: 0,
+    lines: 0,
     bell: true,
 };
 
-// So many steps gone.
-pub fn went(n: usize) -> Report
-    ensures { λ r. ⌜ r ≡ went n ⌝ }
+// So many steps gone, over so many newlines.
+pub fn went(n: usize, lines: usize) -> Report
+    ensures { λ r. ⌜ r ≡ went n lines ⌝ }
 {
     Report {
         steps: n,
+        lines: lines,
         bell: false,
     }
 }

@@ -2,9 +2,10 @@
 use crate::EditorReply;
 use crate::Lengths;
 use crate::Mode;
+use crate::Passage;
 use crate::QUARTER;
-use crate::finds::match_distance;
 use crate::finds::text_begins;
+use crate::passages::match_passage;
 use crate::quotations::hand_quotation;
 use crate::records::QUIET;
 use crate::records::RANG;
@@ -17,7 +18,6 @@ use crate::records::unedited;
 use crate::refusals::FULL;
 use crate::sides::move_side;
 use gap::Direction;
-use gap::Search;
 use gap::runs::hold;
 use gap::texts::drop_right;
 use gap::texts::place_pair;
@@ -38,11 +38,16 @@ fn search(way: Direction, n: Lengths, text: &mut [u8], side: &[u8]) -> EditorRep
 {
     let main = n.main;
     let end = 2 * QUARTER + n.pl;
-    let Search::Reached(d) = match_distance(way, text, main.l, main.r, &side[2 * QUARTER..end])
-    else {
+    let Passage::Reached(d, lines) = match_passage(
+        way,
+        text,
+        main.l,
+        main.r,
+        &side[2 * QUARTER..end],
+    ) else {
         return edited(RANG, n);
     };
-    let t = move_side(way, d, main, text);
+    let t = move_side(way, d, lines, main, text);
     lifted(Mode::Main, n, t)
 }
 

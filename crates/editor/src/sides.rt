@@ -2,10 +2,11 @@
 // alone is not lent it, or lent it for reading.
 use crate::Action;
 use crate::Edit;
+use crate::Passage;
 use crate::Place;
 use crate::SideReply;
 use crate::Sizes;
-use crate::places::place_distance;
+use crate::passages::place_passage;
 use crate::records::QUIET;
 use crate::records::RANG;
 use crate::records::done;
@@ -13,7 +14,6 @@ use crate::records::full;
 use crate::records::moved_by;
 use crate::records::went;
 use gap::Direction;
-use gap::Search;
 use gap::texts::delete_left;
 use gap::texts::delete_right;
 use gap::texts::insert;
@@ -25,7 +25,7 @@ ghost use Prim.Native.Nat.{_≤_};
 ghost use lib.ListN.{length};
 ghost use Rattle.gap.specs.Rules.Doc.{move, times};
 ghost use Rattle.gap.specs.Rules.Layout.{gapped, ungap, IsGap};
-ghost use Rattle.gap.specs.declared.Search.the-variants.{Reached};
+ghost use Rattle.editor.specs.declared.Passage.the-variants.{Reached};
 ghost use Rattle.editor.specs.declared.Action.the-variants.{Move, Delete};
 ghost use Rattle.editor.specs.Rules.Keys.{inserted, carried, function, recalled};
 ghost use Rattle.editor.specs.Wording.Promise.{roomOf, OnSide, EditsSide, EditsText, editing};
@@ -58,28 +58,29 @@ pub fn move_cursor(way: Direction, d: usize, l: usize, r: usize, text: &mut [u8]
     }
 }
 
-// A move of d bytes.
-pub fn move_side(way: Direction, d: usize, n: Sizes, text: &mut [u8]) -> SideReply
+// A move of d bytes, over so many newlines.
+pub fn move_side(way: Direction, d: usize, lines: usize, n: Sizes, text: &mut [u8]) -> SideReply
     requires { ⌜ IsGap (n .l) (n .r) (now text) ⌝ }
     requires { ⌜ d ≤ roomOf way n ⌝ }
-    ensures { λ t. ⌜ EditsText t n (carried Move way (Reached d)) (now (text .entry)) (now (text .exit)) ⌝ }
+    ensures { λ t. ⌜ EditsText t n (carried Move way (Reached d lines)) (now (text .entry)) (now (text .exit)) ⌝ }
 {
     let m = moved_by(way, d, n);
     move_cursor(way, d, n.l, n.r, text);
-    done(went(d), m)
+    done(went(d, lines), m)
 }
 
 // The d bytes that a move would cross go over into the recall text.
 pub fn delete_side(
     way: Direction,
     d: usize,
+    lines: usize,
     n: Sizes,
     text: &mut [u8],
     recall: &mut [u8],
 ) -> SideReply
     requires { ⌜ OnSide n (now text) (now recall) ⌝ }
     requires { ⌜ d ≤ roomOf way n ⌝ }
-    ensures { λ t. ⌜ EditsSide t n (carried Delete way (Reached d)) (now (text .entry)) (now (recall .entry)) (now (text .exit)) (now (recall .exit)) ⌝ }
+    ensures { λ t. ⌜ EditsSide t n (carried Delete way (Reached d lines)) (now (text .entry)) (now (recall .entry)) (now (text .exit)) (now (recall .exit)) ⌝ }
 {
     let l = n.l;
     let r = n.r;
@@ -90,14 +91,14 @@ pub fn delete_side(
             m.l = l - d;
             m.rl = d;
             m.rr = 0;
-            done(went(d), m)
+            done(went(d, lines), m)
         }
         Direction::Right => {
             delete_right(text, l, r, d, recall);
             m.r = r - d;
             m.rl = 0;
             m.rr = d;
-            done(went(d), m)
+            done(went(d, lines), m)
         }
     }
 }
@@ -107,17 +108,18 @@ fn carry_side(
     action: Action,
     way: Direction,
     d: usize,
+    lines: usize,
     n: Sizes,
     text: &mut [u8],
     recall: &mut [u8],
 ) -> SideReply
     requires { ⌜ OnSide n (now text) (now recall) ⌝ }
     requires { ⌜ d ≤ roomOf way n ⌝ }
-    ensures { λ t. ⌜ EditsSide t n (carried action way (Reached d)) (now (text .entry)) (now (recall .entry)) (now (text .exit)) (now (recall .exit)) ⌝ }
+    ensures { λ t. ⌜ EditsSide t n (carried action way (Reached d lines)) (now (text .entry)) (now (recall .entry)) (now (text .exit)) (now (recall .exit)) ⌝ }
 {
     match action {
-        Action::Move => move_side(way, d, n, text),
-        Action::Delete => delete_side(way, d, n, text, recall),
+        Action::Move => move_side(way, d, lines, n, text),
+        Action::Delete => delete_side(way, d, lines, n, text, recall),
     }
 }
 
@@ -135,10 +137,10 @@ pub fn function_side(
 {
     let l = n.l;
     let r = n.r;
-    let Search::Reached(d) = place_distance(place, way, text, l, r) else {
+    let Passage::Reached(d, lines) = place_passage(place, way, text, l, r) else {
         return done(RANG, n);
     };
-    carry_side(action, way, d, n, text, recall)
+    carry_side(action, way, d, lines, n, text, recall)
 }
 
 // The recall pair goes in around the cursor, if it fits.

@@ -103,14 +103,14 @@ pub shown-all : {h w at i from next : ℕ} {screen old new : List ℕ} → Shown
     → Wrote at (rowsOf h w screen) old next new
 shown-all {h} {w} {at} {i} {from} {next} {screen} {old} {new} shown done = let all : i ≡ h = omega arith in rw all at (shown .wrote)
 
--- The block of an accepted call: its first entry, the others two by two, and the rows behind them.
-pub accepted-wrote : (h w : ℕ) (a : Answer) (screen : List ℕ) {bell steps-at first-at row-at lines-at next : ℕ} {old s t u v new : List ℕ}
+-- The block of an accepted call: its entries two by two, and the rows behind them.
+pub accepted-wrote : (h w : ℕ) (a : Answer) (screen : List ℕ) {bell lines-at first-at row-at rows-at next : ℕ} {old s t u v new : List ℕ}
     → bell ≡ bit (a .report .bell)
-    → Wrote 0 (entry (bytes "code=") 0) old steps-at s
-    → Wrote steps-at (entry (bytes "steps=") (a .report .steps) ++ entry (bytes "bell=") bell) s first-at t
+    → Wrote 0 (entry (bytes "code=") 0 ++ entry (bytes "steps=") (a .report .steps)) old lines-at s
+    → Wrote lines-at (entry (bytes "lines=") (a .report .lines) ++ entry (bytes "bell=") bell) s first-at t
     → Wrote first-at (entry (bytes "first=") (a .first) ++ entry (bytes "last=") (a .last)) t row-at u
-    → Wrote row-at (entry (bytes "row=") (a .row) ++ entry (bytes "col=") (a .column)) u lines-at v
-    → Wrote lines-at (rowsOf h w screen) v next new
+    → Wrote row-at (entry (bytes "row=") (a .row) ++ entry (bytes "col=") (a .column)) u rows-at v
+    → Wrote rows-at (rowsOf h w screen) v next new
     → Wrote 0 (acceptedBlock h w a screen) old next new
 unfolding acceptedBlock
 accepted-wrote h w a screen rings code-is did-is named-are cursor-is rows-are =

@@ -9,6 +9,7 @@ use Rattle.gap.specs.Rules.Lines.{newlines, sinceAfter, lines}
 use Rattle.gap.specs.Rules.Layout.{gapped, paired, ungap, unpair, soundGap, soundPair}
 use Rattle.gap.specs.Rules.Decimal.{valueAfter, isNumber, numberOf, digitsIn, decimal}
 use Rattle.gap.specs.Rules.Fields.{lineOf, lineAt, endAt, nextAt, lineNumber, fieldOf, headerAt, entry}
+use Rattle.editor.specs.Rules.Passages.{withLines, passageTo}
 use Rattle.editor.specs.Rules.Places.{lineBeginning, lineEnding, word, documentEnd, isAt}
 use Rattle.editor.specs.Rules.Keys.{soundKey, inserted, carried, function, recalled, onSide, quoted, withPattern, searched, found}
 use Rattle.editor.specs.Rules.Keys.{withReplacement, exchanged, substituted, replaced, pressed, fits, bounded, key}
@@ -23,11 +24,11 @@ use Rattle.bench.specs.Rules.Run.{beginning, openingTurn, pressedTurn, n
 use Rattle.bench.specs.Tables.Samples.{samples, printed}
 
 pub samples-printed : printed samples ≡ true
-unfolding every sameBytes begins part patch zeros counted bytes move delete times passed removed splice nearest distance newlines sinceAfter
-    lines gapped paired ungap unpair soundGap soundPair valueAfter isNumber numberOf digitsIn decimal lineBeginning lineEnding word
-    documentEnd isAt soundKey inserted carried function recalled onSide quoted withPattern searched found withReplacement exchanged
-    substituted replaced pressed fits bounded key quarter sized plainOf lengthsOf storesOf editorOk virtualIn rowCells joined window visible
-    policy firstRow lastRow tabled isSession openedText opened shown finished keyed combinations functionNamed keyNamed lineOf lineAt endAt
-    nextAt lineNumber fieldOf headerAt textThere headingOf keyOf readingAt entry rowsOf acceptedBlock refusedBlock block scriptLine
-    beginning openingTurn pressedTurn nextTurn turns fresh output printed
+unfolding every sameBytes begins part patch zeros counted bytes move delete times passed removed splice nearest distance withLines passageTo
+    newlines sinceAfter lines gapped paired ungap unpair soundGap soundPair valueAfter isNumber numberOf digitsIn decimal lineBeginning
+    lineEnding word documentEnd isAt soundKey inserted carried function recalled onSide quoted withPattern searched found withReplacement
+    exchanged substituted replaced pressed fits bounded key quarter sized plainOf lengthsOf storesOf editorOk virtualIn rowCells joined
+    window visible policy firstRow lastRow tabled isSession openedText opened shown finished keyed combinations functionNamed keyNamed
+    lineOf lineAt endAt nextAt lineNumber fieldOf headerAt textThere headingOf keyOf readingAt entry rowsOf acceptedBlock refusedBlock block
+    scriptLine beginning openingTurn pressedTurn nextTurn turns fresh output printed
 samples-printed = refl

@@ -13,14 +13,16 @@ unfoldable pub rowsOf : ℕ → ℕ → List ℕ → List ℕ
 rowsOf zero W screen = []
 rowsOf (suc h) W screen = bytes "line=" ++ (take W screen ++ (newline ∷ rowsOf h W (drop W screen)))
 
+-- (02, M-104: `lines=` after `steps=`. DECISIONS C21.)
 unfoldable pub acceptedBlock : ℕ → ℕ → Answer → List ℕ → List ℕ
 acceptedBlock H W a screen =
     entry (bytes "code=") 0
     ++ (entry (bytes "steps=") (a .report .steps)
+    ++ (entry (bytes "lines=") (a .report .lines)
     ++ (entry (bytes "bell=") (bit (a .report .bell))
     ++ (entry (bytes "first=") (a .first)
     ++ (entry (bytes "last=") (a .last)
-    ++ (entry (bytes "row=") (a .row) ++ (entry (bytes "col=") (a .column) ++ rowsOf H W screen))))))
+    ++ (entry (bytes "row=") (a .row) ++ (entry (bytes "col=") (a .column) ++ rowsOf H W screen)))))))
 
 unfoldable pub refusedBlock : ℕ → ℕ → List ℕ
 refusedBlock code place = entry (bytes "code=") code ++ entry (bytes "place=") place

@@ -17,7 +17,7 @@ abbrev pub onDeck : String → String → Sample
 onDeck keys printed =
     record {
       script = bytes "rows=1\ncols=2\nstore=4\ntext=2\na\n\n" ++ bytes keys;
-      prints = bytes "code=0\nsteps=0\nbell=0\nfirst=1\nlast=1\nrow=1\ncol=0\nline=a \n" ++ bytes printed;
+      prints = bytes "code=0\nsteps=0\nlines=0\nbell=0\nfirst=1\nlast=1\nrow=1\ncol=0\nline=a \n" ++ bytes printed;
     }
 
 -- 01, the bench program: the sample.
@@ -28,9 +28,9 @@ documentSample =
           bytes "rows=2\ncols=4\nstore=16\ntext=11\na=1\nbb=22\nc\n"
           ++ bytes "key=move-left-line-end\nkey=move-right-line-end\n";
       prints =
-          bytes "code=0\nsteps=0\nbell=0\nfirst=1\nlast=2\nrow=1\ncol=0\nline=a=1 \nline=bb=2\n"
-          ++ (bytes "code=0\nsteps=0\nbell=1\nfirst=0\nlast=0\nrow=1\ncol=0\nline=a=1 \nline=bb=2\n"
-          ++ bytes "code=0\nsteps=3\nbell=0\nfirst=0\nlast=0\nrow=1\ncol=3\nline=a=1 \nline=bb=2\n");
+          bytes "code=0\nsteps=0\nlines=0\nbell=0\nfirst=1\nlast=2\nrow=1\ncol=0\nline=a=1 \nline=bb=2\n"
+          ++ (bytes "code=0\nsteps=0\nlines=0\nbell=1\nfirst=0\nlast=0\nrow=1\ncol=0\nline=a=1 \nline=bb=2\n"
+          ++ bytes "code=0\nsteps=3\nlines=0\nbell=0\nfirst=0\nlast=0\nrow=1\ncol=3\nline=a=1 \nline=bb=2\n");
     }
 
 -- The numbers are those of docs/DECISIONS.md.
@@ -69,9 +69,12 @@ samples =
     -- A14: nothing but digits, and nothing behind them.
     ∷ prints "rows=+1\ncols=2\nstore=4\ntext=0\n\n" "script=1\n"
     ∷ prints "rows=1\ncols=2\r\nstore=4\ntext=0\n\n" "script=2\n"
+    -- M-104, C21: a move over two newlines.
+    ∷ prints "rows=1\ncols=1\nstore=4\ntext=3\n\n\na\nkey=move-right-document\n"
+    "code=0\nsteps=0\nlines=0\nbell=0\nfirst=1\nlast=1\nrow=1\ncol=0\nline= \ncode=0\nsteps=3\nlines=2\nbell=0\nfirst=1\nlast=1\nrow=1\ncol=1\nline=a\n"
     -- A15: column W.
     ∷ prints "rows=1\ncols=1\nstore=4\ntext=1\na\nkey=move-right-character\n"
-    "code=0\nsteps=0\nbell=0\nfirst=1\nlast=1\nrow=1\ncol=0\nline=a\ncode=0\nsteps=1\nbell=0\nfirst=0\nlast=0\nrow=1\ncol=1\nline=a\n"
+    "code=0\nsteps=0\nlines=0\nbell=0\nfirst=1\nlast=1\nrow=1\ncol=0\nline=a\ncode=0\nsteps=1\nlines=0\nbell=0\nfirst=0\nlast=0\nrow=1\ncol=1\nline=a\n"
     ∷ []
 
 -- The whole table computes to true.

@@ -10,17 +10,17 @@ use lib.ListN.{length, take, drop, length-append, length-take, length-drop}
 use lib.Seq.{take-take}
 use Rattle.gap.specs.Rules.Sequence.{part, zeros}
 use Rattle.gap.specs.Rules.Doc.{Doc, empty, splice}
-use Rattle.gap.specs.Rules.Nearest.{distance}
 use Rattle.gap.specs.Rules.Layout.{gapped, paired, ungap, unpair, IsGap}
 use Rattle.gap.proofs.Laws.Tests.{and-left, cond-true, cond-false}
 use Rattle.gap.proofs.Laws.Compared.{begins-fits}
 use Rattle.gap.proofs.Laws.Doc.{splice-twice}
 use Rattle.gap.proofs.Laws.Layout.{length-gapped, ungap-gapped}
 use Rattle.gap.proofs.Laws.Moves.{gap-is}
-use Rattle.editor.specs.Words.{Direction, Search, Move, Main, Sizes, Lengths, Report}
+use Rattle.editor.specs.Words.{Direction, Passage, Move, Main, Sizes, Lengths, Report}
 use Rattle.editor.specs.declared.SideReply.{SideReply}
 use Rattle.editor.specs.declared.EditorReply.{EditorReply}
 use Rattle.editor.specs.Rules.Plain.{Side, Plain, quiet, rang, Did, reporting, within, done}
+use Rattle.editor.specs.Rules.Passages.{passageTo}
 use Rattle.editor.specs.Rules.Keys.{carried, withSide, matches, searched, exchanged, substituted, fits, bounded}
 use Rattle.editor.specs.Rules.Bytes.{Stores, sizesOf, plainOf, editedTo, SoundPlain}
 use Rattle.editor.specs.Wording.Promise.{Sound, stores, doneReply, written, EditsSide, replyOf}
@@ -103,9 +103,9 @@ module _ (Q : ℕ) (n : Lengths) (b : Stores) (sound : Sound Q n b) where
 
   -- ---- The search
 
-  module _ (way : Direction) (answer found : Search)
-      (is : answer ≡ distance way (matches patternLent) (ungap (n .main .l) (n .main .r) (b .text))) (told : answer ≡ found) where
-    -- The distance that the code found, nowhere or so many bytes away, is the definition's.
+  module _ (way : Direction) (answer found : Passage)
+      (is : answer ≡ passageTo way (matches patternLent) (ungap (n .main .l) (n .main .r) (b .text))) (told : answer ≡ found) where
+    -- The passage that the code found, nowhere or so many bytes away, is the definition's.
     found-as : within (λ s. withSide Main s p) (carried Move way found (p .main)) ≡ searched way p
     unfolding searched plainOf
     found-as = rw (← told, is, pattern-lent)

@@ -16,14 +16,16 @@ use Rattle.gap.proofs.Laws.Tests.{cond-true, cond-false}
 use Rattle.gap.proofs.Laws.Sequence.{length-part}
 use Rattle.gap.proofs.Laws.Doc.{deletions-left, deletions-right, insertions, length-moves, room-moves, room-behind}
 use Rattle.gap.proofs.Laws.Layout.{length-left, length-right}
-use Rattle.editor.specs.Words.{Direction, Left, Right, Search, Reached, Nowhere, Action, Move, Delete, Place, Sizes, Report}
+use Rattle.editor.specs.Words.{Direction, Left, Right, Search, Passage, Reached, Nowhere, Action, Move, Delete, Place, Sizes, Report}
+use Rattle.gap.specs.declared.Search.the-variants as found
 use Rattle.editor.specs.declared.SideReply.{SideReply}
 use Rattle.editor.specs.Rules.Plain.{Side, quiet, rang, went, Did, reporting}
 use Rattle.gap.proofs.Laws.Nearest.{reached-least}
 use Rattle.editor.specs.Rules.Keys.{inserted, carried, function, recalled}
 use Rattle.editor.specs.Rules.Places.{isAt}
+use Rattle.editor.specs.Rules.Passages.{withLines, passageTo}
 use Rattle.editor.specs.Rules.Bytes.{sizesOf}
-use Rattle.editor.specs.Wording.Promise.{roomOf, movedBy, OnSide, sideHeld, fullReply, doneReply, written, EditsSide}
+use Rattle.editor.specs.Wording.Promise.{roomOf, InRoom, movedBy, OnSide, sideHeld, fullReply, doneReply, written, EditsSide}
 
 module _ (n : Sizes) (text recall : List ℕ) (did : Did Side) where
   abbrev finished : Doc
@@ -74,15 +76,29 @@ entered x s = reporting quiet (record { text = splice 0 0 x (s .text); recall = 
 abbrev single : ℕ → Doc
 single b = record { l = b ∷ []; r = [] }
 
--- A distance that was found is within the room.
-room-held : (n : Sizes) {text : List ℕ} → IsGap (n .l) (n .r) text → (way : Direction) → roomOf way n ≡ room way (ungap (n .l) (n .r) text)
-room-held n gap Left = sym (length-left _ _ _ (gap .fits))
-room-held n gap Right = sym (length-right _ _ _ (gap .fits))
+-- A distance that was found is within the room, and so are the moves of a passage.
+room-held : (way : Direction) (l r : ℕ) (text : List ℕ) → l + r ≤ length text
+    → roomOf way (record { l = l; r = r; rl = 0; rr = 0 }) ≡ room way (ungap l r text)
+room-held Left l r text fits = sym (length-left _ _ _ fits)
+room-held Right l r text fits = sym (length-right _ _ _ fits)
 
-pub within-room : (n : Sizes) {text : List ℕ} → IsGap (n .l) (n .r) text → (way : Direction) (place : Doc → Bool) {found : Search} {d : ℕ}
-    → found ≡ distance way place (ungap (n .l) (n .r) text) → found ≡ Reached d → d ≤ roomOf way n
+pub distance-in-room : (way : Direction) (place : Doc → Bool) (l r : ℕ) (text : List ℕ) → l + r ≤ length text → {answer : Search}
+    → answer ≡ distance way place (ungap l r text) → InRoom answer way l r
 unfolding distance
-within-room n gap way place {d = d} e told = omega (arith, room-held n gap way, reached-least _ _ 1 d (sym e ∙ told) .within)
+distance-in-room way place l r text fits e d told =
+    omega (arith, room-held way l r text fits, reached-least _ _ 1 d (sym e ∙ told) .within)
+
+passage-distance : (way : Direction) (doc : Doc) (answer : Search) {d lines : ℕ} → withLines way doc answer ≡ Reached d lines → answer ≡ found.Reached d
+unfolding withLines
+passage-distance way doc (found.Reached n) e = cc
+passage-distance way doc found.Nowhere e = cc
+
+pub within-room : (n : Sizes) {text : List ℕ} → IsGap (n .l) (n .r) text → (way : Direction) (place : Doc → Bool) {answer : Passage} {d lines : ℕ}
+    → answer ≡ passageTo way place (ungap (n .l) (n .r) text) → answer ≡ Reached d lines → d ≤ roomOf way n
+unfolding passageTo
+within-room n gap way place {d = d} e told =
+    let near = passage-distance way _ (distance way place (ungap (n .l) (n .r) _)) (sym e ∙ told) in
+    rw (room-of way n) (distance-in-room way place (n .l) (n .r) _ (gap .fits) refl d near)
 
 -- Two stores that hold a side.
 module _ {n : Sizes} {text recall : List ℕ} (on : OnSide n text recall) where
@@ -162,9 +178,9 @@ module _ {n : Sizes} {text recall : List ℕ} (on : OnSide n text recall) where
       same-sizes (omega (arith, room-behind Right d doc (rw right h), left)) (omega (arith, room-moves Right d doc, right))
       (sym first) (sym second)
 
-  pub moved : (way : Direction) {d : ℕ} {t : SideReply} {report : Report} {m : Sizes} {textThen : List ℕ} → t ≡ doneReply report m
-      → report ≡ went d → d ≤ roomOf way n → m ≡ movedBy way d n → textThen ≡ gapped (length text) (times (move way) d doc)
-      → EditsSide t n (carried Move way (Reached d)) text recall textThen recall
+  pub moved : (way : Direction) {d lines : ℕ} {t : SideReply} {report : Report} {m : Sizes} {textThen : List ℕ} → t ≡ doneReply report m
+      → report ≡ went d lines → d ≤ roomOf way n → m ≡ movedBy way d n → textThen ≡ gapped (length text) (times (move way) d doc)
+      → EditsSide t n (carried Move way (Reached d lines)) text recall textThen recall
   unfolding carried
   moved way {d} reply said h sizes store =
       landed n text recall _ reply said (rw length-moves held-fits) (sizes ∙ moved-sizes way d h) store (sym (on .pair .holds))
@@ -180,10 +196,10 @@ module _ {n : Sizes} {text recall : List ℕ} (on : OnSide n text recall) where
       (same-sizes (simp (length-append, length-take, left) (omega arith)) (simp (length-drop, right))
       refl (simp (length-take, right) (omega arith)))
 
-  pub deleted : (way : Direction) {d : ℕ} {t : SideReply} {report : Report} {m : Sizes} {textThen recallThen : List ℕ}
-      → t ≡ doneReply report m → report ≡ went d → d ≤ roomOf way n → m ≡ deletedBy way d n
+  pub deleted : (way : Direction) {d lines : ℕ} {t : SideReply} {report : Report} {m : Sizes} {textThen recallThen : List ℕ}
+      → t ≡ doneReply report m → report ≡ went d lines → d ≤ roomOf way n → m ≡ deletedBy way d n
       → textThen ≡ gapped (length text) (times (delete way) d doc) → recallThen ≡ paired (length recall) (removed way d doc)
-      → EditsSide t n (carried Delete way (Reached d)) text recall textThen recallThen
+      → EditsSide t n (carried Delete way (Reached d lines)) text recall textThen recallThen
   unfolding carried
   deleted way {d} reply said h sizes store taken =
       let lengths = ap (λ m. m .l + m .r) (deleted-sizes way d h) in
@@ -207,10 +223,10 @@ module _ {n : Sizes} {text recall : List ℕ} (on : OnSide n text recall) where
   not-carried Move way reply said = not-did reply said
   not-carried Delete way reply said = not-did reply said
 
-  -- A function key does what it does at the distance that was found.
-  pub by-distance : (action : Action) (way : Direction) (place : Place) {t : SideReply} {found search : Search} {textThen recallThen : List ℕ}
-      → found ≡ distance way (isAt place way) doc → found ≡ search → EditsSide t n (carried action way search) text recall textThen recallThen
+  -- A function key does what it does with the passage that was found.
+  pub by-passage : (action : Action) (way : Direction) (place : Place) {t : SideReply} {answer known : Passage} {textThen recallThen : List ℕ}
+      → answer ≡ passageTo way (isAt place way) doc → answer ≡ known → EditsSide t n (carried action way known) text recall textThen recallThen
       → EditsSide t n (function action way place) text recall textThen recallThen
   unfolding function
-  by-distance action way place e told turns =
+  by-passage action way place e told turns =
       turns ∙ ap (λ s. written n text recall (carried action way s (sideHeld n text recall))) (sym told ∙ e)

@@ -10,7 +10,7 @@ use Rattle.gap.specs.Rules.Doc.{Doc, content, delete, times, passed, removed}
 use Rattle.gap.specs.Rules.Layout.{allowed, Holdable}
 use Rattle.gap.proofs.Laws.Tests.{and-both, or-right}
 use Rattle.gap.proofs.Laws.Holdable.{empty-holdable, splice-holdable, deletions-holdable, moves-holdable, removed-holdable}
-use Rattle.editor.specs.Words.{Direction, Left, Right, Search, Reached, Nowhere, Action, Move, Delete}
+use Rattle.editor.specs.Words.{Direction, Left, Right, Passage, Reached, Nowhere, Action, Move, Delete}
 use Rattle.editor.specs.Rules.Plain.{Side}
 use Rattle.editor.specs.Rules.Bytes.{sizesOf, oneHalf}
 use Rattle.editor.specs.Rules.Keys.{inserted, carried, recalled}
@@ -28,12 +28,12 @@ removed-half n Right text d = refl
 
 module _ (size : ℕ) (s : Side) (sound : SoundSide size s) where
   -- Moves and deletions keep a side sound, wherever their search ends.
-  pub carried-sound : (action : Action) (way : Direction) (search : Search) → SoundSide size (carried action way search s .state)
+  pub carried-sound : (action : Action) (way : Direction) (passage : Passage) → SoundSide size (carried action way passage s .state)
   unfolding carried
-  carried-sound Move way (Reached n) =
+  carried-sound Move way (Reached n lines) =
       record { text = moves-holdable size n way (s .text) (sound .text); recall = sound .recall; half = sound .half }
   carried-sound Move way Nowhere = sound
-  carried-sound Delete way (Reached n) =
+  carried-sound Delete way (Reached n lines) =
       record {
         text = deletions-holdable size n way (s .text) (sound .text);
         recall = removed-holdable size n way (s .text) (sound .text);

@@ -8,7 +8,6 @@ use borrow.Author.Tests.{leb-true, le-leb}
 use lib.Dec.{leb}
 use lib.ListN.{length}
 use Rattle.gap.specs.Rules.Doc.{Doc, content}
-use Rattle.gap.specs.Rules.Nearest.{distance}
 use Rattle.gap.specs.Rules.Layout.{allowed, Holdable}
 use Rattle.gap.proofs.Laws.Tests.{and-left, and-right, and-both}
 use Rattle.gap.proofs.Laws.Sequence.{every-left}
@@ -16,6 +15,7 @@ use Rattle.gap.proofs.Laws.Compared.{begins-fits}
 use Rattle.gap.proofs.Laws.Holdable.{empty-holdable, content-fits, splice-holdable, left-holdable, right-holdable}
 use Rattle.editor.specs.Words.{Direction, Action, Move, Place, Mode, Main, Quoted}
 use Rattle.editor.specs.Rules.Places.{isAt}
+use Rattle.editor.specs.Rules.Passages.{passageTo}
 use Rattle.editor.specs.Rules.Plain.{Side, emptySide, Plain, quiet, rang, Did, reporting}
 use Rattle.editor.specs.Rules.Bytes.{alone, sizesOf, unquoted, SoundPlain}
 use Rattle.editor.specs.Rules.Keys.{function, sideOf, withSide, onSide, otherMode, quoted, withPattern, matches, searched, found}
@@ -109,7 +109,7 @@ unfolding function
 function-sound T Q action way place p sound =
     let s = sideOf (p .mode) p in
     on-side-sound T Q (function action way place) p sound
-    (carried-sound (limit T Q (p .mode)) s (side-sound T Q (p .mode) p sound) action way (distance way (isAt place way) (s .text)))
+    (carried-sound (limit T Q (p .mode)) s (side-sound T Q (p .mode) p sound) action way (passageTo way (isAt place way) (s .text)))
 
 -- A sound state without its quotation, with another pattern, replacement and mode.
 cleared-sound : (T Q : ℕ) (pattern : List ℕ) (replacement : Doc) (mode : Mode) (p : Plain) → SoundPlain T Q p
@@ -149,7 +149,7 @@ pub searched-sound : (T Q : ℕ) (way : Direction) (p : Plain) → SoundPlain T 
 unfolding searched
 searched-sound T Q way p sound =
     with-main-sound T Q _ p sound
-    (carried-sound T (p .main) (side-sound T Q Main p sound) Move way (distance way (matches (p .pattern)) (p .main .text)))
+    (carried-sound T (p .main) (side-sound T Q Main p sound) Move way (passageTo way (matches (p .pattern)) (p .main .text)))
 
 pub found-sound : (T Q : ℕ) (way : Direction) (p : Plain) → SoundPlain T Q p → SoundPlain T Q (found way p .state)
 unfolding found

@@ -8,11 +8,13 @@ use Rattle.gap.specs.Rules.Sequence.{every, sameBytes, begins, part, zeros}
 use Rattle.gap.specs.Rules.Strings.{bytes}
 use Rattle.gap.specs.Rules.Doc.{move, delete, times, passed, removed, splice}
 use Rattle.gap.specs.Rules.Nearest.{nearest, distance}
+use Rattle.gap.specs.Rules.Lines.{newlines}
 use Rattle.gap.specs.Rules.Layout.{gapped, paired, ungap, unpair, soundGap, soundPair}
 use Rattle.gap.specs.Tables.Sentence.{allOf, broken, itself}
 use Rattle.gap.specs.Tables.Written.{markedAfter, storedAs}
 use Rattle.editor.specs.Words.{Lengths}
 use Rattle.editor.specs.Rules.Plain.{Plain, Did, refused, done}
+use Rattle.editor.specs.Rules.Passages.{withLines, passageTo}
 use Rattle.editor.specs.Rules.Places.{lineBeginning, lineEnding, word, documentEnd, isAt}
 use Rattle.editor.specs.Rules.Keys.{soundKey, inserted, carried, function, recalled, onSide, quoted, withPattern, searched, found}
 use Rattle.editor.specs.Rules.Keys.{withReplacement, exchanged, substituted, replaced, pressed, fits, bounded, key, keys}
@@ -23,44 +25,47 @@ use Rattle.editor.specs.Tables.QuotationPins.{quotationPins, searchPins,
 use Rattle.editor.specs.Tables.SessionPins.{layoutPins, sessionPins}
 
 pub places-pinned : broken onPlain placePins ≡ []
-unfolding sameBytes bytes move delete times nearest distance allOf broken markedAfter lineBeginning lineEnding word documentEnd isAt soundKey
-    carried function onSide pressed fits bounded key quarter states statesAll seeing onPlain
+unfolding sameBytes bytes move delete times nearest distance passed withLines passageTo newlines allOf broken markedAfter lineBeginning
+    lineEnding word documentEnd isAt soundKey carried function onSide pressed fits bounded key quarter states statesAll seeing onPlain
 places-pinned = refl
 
 pub edits-pinned : broken onPlain editPins ≡ []
-unfolding sameBytes bytes move delete times passed removed splice nearest distance allOf broken markedAfter lineBeginning lineEnding word
-    documentEnd isAt soundKey inserted carried function recalled onSide quoted pressed fits bounded key quarter states statesAll seeing onPlain
+unfolding sameBytes bytes move delete times passed removed splice nearest distance withLines passageTo newlines allOf broken markedAfter
+    lineBeginning lineEnding word documentEnd isAt soundKey inserted carried function recalled onSide quoted pressed fits bounded key
+    quarter states statesAll seeing onPlain
 edits-pinned = refl
 
 pub quotations-pinned : broken onPlain quotationPins ≡ []
-unfolding sameBytes bytes move delete times passed removed splice nearest distance allOf broken markedAfter lineBeginning word isAt soundKey
-    inserted carried function recalled onSide quoted pressed fits bounded key quarter states statesAll seeing onPlain
+unfolding sameBytes bytes move delete times passed removed splice nearest distance withLines passageTo newlines allOf broken markedAfter
+    lineBeginning word isAt soundKey inserted carried function recalled onSide quoted pressed fits bounded key quarter states statesAll
+    seeing onPlain
 quotations-pinned = refl
 
 pub searches-pinned : broken onPlain searchPins ≡ []
-unfolding sameBytes begins bytes move delete times passed removed splice nearest distance allOf broken markedAfter isAt soundKey inserted carried
-    function onSide quoted withPattern searched found withReplacement exchanged substituted replaced pressed fits bounded key quarter states
-    statesAll seeing onPlain
+unfolding sameBytes begins bytes move delete times passed removed splice nearest distance withLines passageTo newlines allOf broken
+    markedAfter isAt soundKey inserted carried function onSide quoted withPattern searched found withReplacement exchanged substituted
+    replaced pressed fits bounded key quarter states statesAll seeing onPlain
 searches-pinned = refl
 
 pub replacements-pinned : broken onPlain replacePins ≡ []
-unfolding sameBytes begins bytes move delete times passed removed splice nearest distance allOf broken markedAfter isAt soundKey inserted carried
-    function onSide quoted withPattern searched found withReplacement exchanged substituted replaced pressed fits bounded key quarter states
-    statesAll seeing onPlain
+unfolding sameBytes begins bytes move delete times passed removed splice nearest distance withLines passageTo newlines allOf broken
+    markedAfter isAt soundKey inserted carried function onSide quoted withPattern searched found withReplacement exchanged substituted
+    replaced pressed fits bounded key quarter states statesAll seeing onPlain
 replacements-pinned = refl
 
 pub layouts-pinned : broken itself layoutPins ≡ []
-unfolding sameBytes part zeros bytes move times splice nearest distance gapped paired ungap unpair allOf broken markedAfter storedAs isAt soundKey
-    inserted carried function onSide quoted pressed fits bounded key keys quarter sized plainOf lengthsOf storesOf
+unfolding sameBytes part zeros bytes move times splice nearest distance passed withLines passageTo newlines gapped paired ungap unpair allOf
+    broken markedAfter storedAs isAt soundKey inserted carried function onSide quoted pressed fits bounded key keys quarter sized plainOf
+    lengthsOf storesOf
 layouts-pinned = refl
 
 pub sessions-pinned : broken itself sessionPins ≡ []
 unfolding every sameBytes part bytes ungap unpair soundGap soundPair allOf broken storedAs editorOk
 sessions-pinned = refl
 
--- 01, what a refused key leaves, as this layer says it: the record and the stores it was given, no steps and no bell.
+-- 01, what a refused key leaves, as this layer says it: the record and the stores it was given, no steps, no lines and no bell.
 pub refused-edit : (Q : ℕ) (n : Lengths) (b : Stores) (code : ℕ) → editedTo Q n b (refused code) ≡ record {
-  reply = record { code = code; report = record { steps = 0; bell = false }; lengths = n };
+  reply = record { code = code; report = record { steps = 0; lines = 0; bell = false }; lengths = n };
   stores = b;
 }
 refused-edit Q n b code = refl

@@ -11,13 +11,15 @@ use lib.ListN.{length, take-append-drop}
 use lib.Seq.{take-length}
 use Rattle.gap.specs.Rules.Sequence.{every}
 use Rattle.gap.specs.Rules.Doc.{Doc, empty, content, move, delete, times, passed, splice, removed}
+use Rattle.gap.specs.Rules.Lines.{newlines}
 use Rattle.gap.specs.Rules.Nearest.{nearest, distance}
 use Rattle.gap.proofs.Laws.Tests.{clash}
 use Rattle.gap.proofs.Laws.Doc.{same-texts, deletions-left, deletions-right, insertions, content-moves}
-use Rattle.editor.specs.Words.{Direction, Left, Right, Search, Reached, Nowhere, Action, Move, Delete, Place, Character, Mode, Main, Quoted}
+use Rattle.editor.specs.Words.{Direction, Left, Right, Passage, Reached, Nowhere, Action, Move, Delete, Place, Character, Mode, Main, Quoted}
 use Rattle.editor.specs.Words.{Function, Recall, Find}
 use Rattle.editor.specs.Rules.Refusals.{FULL}
 use Rattle.editor.specs.Rules.Places.{isAt}
+use Rattle.editor.specs.Rules.Passages.{withLines, passageTo}
 use Rattle.editor.specs.Rules.Plain.{Side, Plain, opening, quiet, rang, Did, reporting, within, refused, done}
 use Rattle.editor.specs.Rules.Keys.{soundKey, carried, function, recalled, sideOf, withSide, onSide, withPattern, matches, searched, found}
 use Rattle.editor.specs.Rules.Keys.{pressed, fits, bounded, key, after, keys, Unsound, Exceeds}
@@ -41,12 +43,12 @@ put-back Right n d =
 -- ---- The bell
 
 -- A function key that rings has found no place, and text and recall text stay as they were. (02, M-103: in QUOTED too.)
-carried-rings : (action : Action) (way : Direction) (search : Search) (s : Side) → carried action way search s .report .bell ≡ true
-    → carried action way search s .state ≡ s
+carried-rings : (action : Action) (way : Direction) (passage : Passage) (s : Side) → carried action way passage s .report .bell ≡ true
+    → carried action way passage s .state ≡ s
 unfolding carried
-carried-rings Move way (Reached n) s bell = absurd (false≢true bell)
+carried-rings Move way (Reached n lines) s bell = absurd (false≢true bell)
 carried-rings Move way Nowhere s bell = refl
-carried-rings Delete way (Reached n) s bell = absurd (false≢true bell)
+carried-rings Delete way (Reached n lines) s bell = absurd (false≢true bell)
 carried-rings Delete way Nowhere s bell = refl
 
 same-side : (mode : Mode) (p : Plain) → withSide mode (sideOf mode p) p ≡ p
@@ -61,7 +63,7 @@ function-rings T Q action way place p did e bell =
     let s = sideOf (p .mode) p in
     ap (λ d. d .state) (sym same)
     ∙ (ap (λ s. withSide (p .mode) s p)
-    (carried-rings action way (distance way (isAt place way) (s .text)) s (ap (λ d. d .report .bell) same ∙ bell))
+    (carried-rings action way (passageTo way (isAt place way) (s .text)) s (ap (λ d. d .report .bell) same ∙ bell))
     ∙ same-side (p .mode) p)
 
 -- What RECALL does anyhow.
@@ -92,17 +94,17 @@ recall-done T Q p =
 -- ---- A deletion that found its place
 
 -- RECALL straight after it: the text is as it was, cursor included, and the recall text is what the deletion made it.
-recall-carried : (way : Direction) (search : Search) (s : Side) → 1 ≤ carried Delete way search s .report .steps
-    → recalled (carried Delete way search s .state) ≡ reporting quiet (record { text = s .text; recall = carried Delete way search s .state .recall })
+recall-carried : (way : Direction) (passage : Passage) (s : Side) → 1 ≤ carried Delete way passage s .report .steps
+    → recalled (carried Delete way passage s .state) ≡ reporting quiet (record { text = s .text; recall = carried Delete way passage s .state .recall })
 unfolding recalled carried
-recall-carried way (Reached n) s some = λ i. reporting quiet (record { text = put-back way n (s .text) i; recall = removed way n (s .text) })
+recall-carried way (Reached n lines) s some = λ i. reporting quiet (record { text = put-back way n (s .text) i; recall = removed way n (s .text) })
 recall-carried way Nowhere s some = absurd (omega (arith, some))
 
 pub recall-after-deletion : (way : Direction) (place : Place) (s : Side) → 1 ≤ function Delete way place s .report .steps
     → recalled (function Delete way place s .state)
     ≡ reporting quiet (record { text = s .text; recall = function Delete way place s .state .recall })
 unfolding function
-recall-after-deletion way place s some = recall-carried way (distance way (isAt place way) (s .text)) s some
+recall-after-deletion way place s some = recall-carried way (passageTo way (isAt place way) (s .text)) s some
 
 fits-with-recall : (T Q : ℕ) (recall : Doc) (p : Plain) → fits T Q (withRecall recall p) ≡ fits T Q p
 unfolding fits
@@ -154,15 +156,16 @@ taken = keys 1 1 (Function Delete Right Character ∷ []) (opening (97 ∷ []))
 pub restores-not-always : ¬ ((T Q : ℕ) (way : Direction) (place : Place) (p : Plain) (did : Did Plain) → SoundPlain T Q p
     → key T Q (Function Delete way place) p ≡ done did
     → key T Q Recall (did .state) ≡ done (reporting quiet (withRecall (sideOf (p .mode) (did .state) .recall) p)))
-unfolding every move delete times passed removed splice nearest distance isAt soundKey carried function recalled onSide pressed fits bounded key keys
+unfolding every move delete times passed removed splice nearest distance newlines withLines passageTo isAt soundKey carried function
+    recalled onSide pressed fits bounded key keys
 restores-not-always claim =
     let sound = keys-keep 1 1 (Function Delete Right Character ∷ []) (opening (97 ∷ [])) (opening-sound 1 1 1 (97 ∷ []) (omega arith) refl) in
     omega (arith, ap (λ o. length (content (after taken o .main .text))) (claim 1 1 Left Character taken (reporting rang taken) sound refl))
 
 -- A move of one side keeps its content, wherever its search ends.
-moved-keeps : (way : Direction) (search : Search) (s : Side) → content (carried Move way search s .state .text) ≡ content (s .text)
+moved-keeps : (way : Direction) (passage : Passage) (s : Side) → content (carried Move way passage s .state .text) ≡ content (s .text)
 unfolding carried
-moved-keeps way (Reached n) s = content-moves way n (s .text)
+moved-keeps way (Reached n lines) s = content-moves way n (s .text)
 moved-keeps way Nowhere s = refl
 
 -- Moves keep the content of the text that they act on.
@@ -173,7 +176,7 @@ unfolding pressed onSide function
 move-keeps T Q way place p did e =
     let (ok, room, same) = accepted T Q (Function Move way place) p did .0 e in
     let s = sideOf (p .mode) p in
-    rw (← same, side-with (p .mode) (function Move way place s .state) p) (moved-keeps way (distance way (isAt place way) (s .text)) s)
+    rw (← same, side-with (p .mode) (function Move way place s .state) p) (moved-keeps way (passageTo way (isAt place way) (s .text)) s)
 
 same-document : (mode : Mode) (p : Plain) → withPattern mode p .main ≡ p .main
 unfolding withPattern
@@ -188,5 +191,5 @@ find-keeps T Q way p did e =
     let (ok, room, same) = accepted T Q (Find way) p did .0 e in
     let q = withPattern (p .mode) p in
     rw (← same)
-    (moved-keeps way (distance way (matches (q .pattern)) (q .main .text)) (q .main)
+    (moved-keeps way (passageTo way (matches (q .pattern)) (q .main .text)) (q .main)
     ∙ ap (λ s. content (s .text)) (same-document (p .mode) p))

@@ -1,7 +1,7 @@
 -- The keys on the plain state. (01, plain editor, from the function keys on.)
 use Rattle.gap.specs.Rules.Checks.{Check, check, unless}
 use Rattle.editor.specs.Words.{List, [], _∷_, Bool, true, false, _&&_, cond, ℕ, leb, length}
-use Rattle.editor.specs.Words.{Direction, Left, Right, Search, Reached, Nowhere, Action, Move, Delete, Mode, Main, Quoted}
+use Rattle.editor.specs.Words.{Direction, Left, Right, Passage, Reached, Nowhere, Action, Move, Delete, Mode, Main, Quoted}
 use Rattle.editor.specs.Words.{Place, Character, Word, LineBeginning, LineEnding, Document}
 use Rattle.editor.specs.Words.{Key, Insert, Function, Recall, Quote, Find, Replace}
 use mathlib.Core.Path.{_≡_}
@@ -9,9 +9,9 @@ use mathlib.Core.Logic.{_⊎_}
 use Prim.Native.Nat.{_<_}
 use Rattle.gap.specs.Rules.Sequence.{begins}
 use Rattle.gap.specs.Rules.Doc.{Doc, content, move, delete, times, removed, splice}
-use Rattle.gap.specs.Rules.Nearest.{distance}
 use Rattle.gap.specs.Rules.Layout.{allowed}
 use Rattle.editor.specs.Rules.Places.{isAt}
+use Rattle.editor.specs.Rules.Passages.{passageTo}
 use Rattle.editor.specs.Rules.Plain.{Side, emptySide, Plain, quiet, rang, went, Did, reporting, within, Outcome, refused, done}
 use Rattle.editor.specs.Rules.Refusals.{KEY, FULL}
 
@@ -44,18 +44,18 @@ soundKey Replace = true
 unfoldable pub inserted : ℕ → Side → Did Side
 inserted b s = reporting quiet (record { text = splice 0 0 (record { l = b ∷ []; r = [] }) (s .text); recall = s .recall })
 
--- A function key at its distance: that many single steps. A deletion leaves what it took as recall text; a move leaves the recall text
--- alone. Nowhere rings, and text and recall text stay. (01, plain editor: distance, recall text. 02, M-103: with the bell, in place of
--- 01's empty pair. DECISIONS B4, B30.)
-unfoldable pub carried : Action → Direction → Search → Side → Did Side
-carried Move way (Reached n) s = reporting (went n) (record { text = times (move way) n (s .text); recall = s .recall })
+-- A function key at its distance: that many single steps, reported with the newlines that they pass. A deletion leaves what it took as recall
+-- text; a move leaves the recall text alone. Nowhere rings, and text and recall text stay. (01, plain editor: distance, recall text. 02, M-103:
+-- with the bell, in place of 01's empty pair; M-104: lines. DECISIONS B4, B30.)
+unfoldable pub carried : Action → Direction → Passage → Side → Did Side
+carried Move way (Reached n lines) s = reporting (went n lines) (record { text = times (move way) n (s .text); recall = s .recall })
 carried Move way Nowhere s = reporting rang s
-carried Delete way (Reached n) s =
-    reporting (went n) (record { text = times (delete way) n (s .text); recall = removed way n (s .text) })
+carried Delete way (Reached n lines) s =
+    reporting (went n lines) (record { text = times (delete way) n (s .text); recall = removed way n (s .text) })
 carried Delete way Nowhere s = reporting rang s
 
 unfoldable pub function : Action → Direction → Place → Side → Did Side
-function action way place s = carried action way (distance way (isAt place way) (s .text)) s
+function action way place s = carried action way (passageTo way (isAt place way) (s .text)) s
 
 -- The recall pair goes in around the cursor, and stays for the next time. (01, plain editor: RECALL.)
 unfoldable pub recalled : Side → Did Side
@@ -111,7 +111,7 @@ matches pattern d = begins pattern (d .r)
 -- A search is a move of the document's cursor to the nearest match that is not here. (01, plain editor: search.)
 unfoldable pub searched : Direction → Plain → Did Plain
 searched way p =
-    within (λ s. withSide Main s p) (carried Move way (distance way (matches (p .pattern)) (p .main .text)) (p .main))
+    within (λ s. withSide Main s p) (carried Move way (passageTo way (matches (p .pattern)) (p .main .text)) (p .main))
 
 unfoldable pub found : Direction → Plain → Did Plain
 found way p = searched way (withPattern (p .mode) p)

@@ -29,15 +29,16 @@ opening text =
       mode = Main;
     }
 
--- The three ways to report: nothing to say, nothing found, or n steps gone. (01, plain editor: steps, bell.)
+-- The three ways to report: nothing to say, nothing found, or n steps gone over so many newlines. (01, plain editor: steps, bell. 02, M-104:
+-- lines, 0 with the bell and for other keys.)
 abbrev pub quiet : Report
-quiet = record { steps = 0; bell = false }
+quiet = record { steps = 0; lines = 0; bell = false }
 
 abbrev pub rang : Report
-rang = record { steps = 0; bell = true }
+rang = record { steps = 0; lines = 0; bell = true }
 
-abbrev pub went : ℕ → Report
-went n = record { steps = n; bell = false }
+abbrev pub went : ℕ → ℕ → Report
+went n lines = record { steps = n; lines = lines; bell = false }
 
 -- What a key did: the state behind it and its report.
 pub record Did (A : Type 0) : Type 0 where

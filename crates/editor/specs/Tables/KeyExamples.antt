@@ -17,11 +17,12 @@ pub record Seen : Type 0 where
   pub report : Report
   pub state : Plain
 
--- What is stated of it: refused with a number; or accepted with so many steps, or with the bell; then texts and pairs, each written
--- with `|` at its cursor or cut, and the mode.
+-- What is stated of it: refused with a number; or accepted with so many steps over no newline, with steps over so many, or with the bell;
+-- then texts and pairs, each written with `|` at its cursor or cut, and the mode.
 pub data KeyFact : Type 0 where
   Refused : ℕ → KeyFact
   Goes : ℕ → KeyFact
+  Crosses : ℕ → ℕ → KeyFact
   Rings : KeyFact
   Text : String → KeyFact
   Recalls : String → KeyFact
@@ -31,8 +32,9 @@ pub data KeyFact : Type 0 where
   Replacement : String → KeyFact
   In : Mode → KeyFact
 
-abbrev pub reports : ℕ → ℕ → Bool → Seen → Bool
-reports code steps bell s = (eqb (s .code) code && eqb (s .report .steps) steps) && sameBool (s .report .bell) bell
+abbrev pub reports : ℕ → ℕ → ℕ → Bool → Seen → Bool
+reports code steps lines bell s =
+    (eqb (s .code) code && eqb (s .report .steps) steps) && (eqb (s .report .lines) lines && sameBool (s .report .bell) bell)
 
 abbrev pub sameMode : Mode → Mode → Bool
 sameMode Main Main = true
@@ -41,9 +43,10 @@ sameMode Quoted Main = false
 sameMode Quoted Quoted = true
 
 unfoldable pub states : Seen → KeyFact → Bool
-states s (Refused n) = reports n 0 false s
-states s (Goes n) = reports 0 n false s
-states s Rings = reports 0 0 true s
+states s (Refused n) = reports n 0 0 false s
+states s (Goes n) = reports 0 n 0 false s
+states s (Crosses n lines) = reports 0 n lines false s
+states s Rings = reports 0 0 0 true s
 states s (Text t) = isDoc (s .state .main .text) t
 states s (Recalls t) = isDoc (s .state .main .recall) t
 states s (Quotation t) = isDoc (s .state .quoted .text) t

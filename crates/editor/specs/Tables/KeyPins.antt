@@ -1,7 +1,7 @@
 -- What document 01 says of insertions, places, moves, deletions and RECALL, each sentence with its examples.
 use Rattle.editor.specs.Words.{List, [], _∷_, _++_, Character, Word, LineBeginning, LineEnding, Document, Insert, Recall, Quote}
 use Rattle.gap.specs.Tables.Sentence.{Sentence, sentence}
-use Rattle.editor.specs.Tables.KeyExamples.{KeyExample, Refused, Goes, Rings, Text, Recalls, example, exampleIn}
+use Rattle.editor.specs.Tables.KeyExamples.{KeyExample, Refused, Goes, Crosses, Rings, Text, Recalls, example, exampleIn}
 use Rattle.editor.specs.Tables.KeyExamples.{moveLeft, moveRight, deleteLeft, deleteRight, typed}
 
 -- ---- Places
@@ -11,42 +11,42 @@ placePins =
     sentence "right to each place"
     (example "abc de\nf|gh ijk\nlm" (moveRight Character ∷ []) (Goes 1 ∷ Text "abc de\nfg|h ijk\nlm" ∷ [])
     ∷ example "abc de\nf|gh ijk\nlm" (moveRight Word ∷ []) (Goes 3 ∷ Text "abc de\nfgh |ijk\nlm" ∷ [])
-    ∷ example "abc de\nf|gh ijk\nlm" (moveRight LineBeginning ∷ []) (Goes 7 ∷ Text "abc de\nfgh ijk\n|lm" ∷ [])
+    ∷ example "abc de\nf|gh ijk\nlm" (moveRight LineBeginning ∷ []) (Crosses 7 1 ∷ Text "abc de\nfgh ijk\n|lm" ∷ [])
     ∷ example "abc de\nf|gh ijk\nlm" (moveRight LineEnding ∷ []) (Goes 6 ∷ Text "abc de\nfgh ijk|\nlm" ∷ [])
-    ∷ example "abc de\nf|gh ijk\nlm" (moveRight Document ∷ []) (Goes 9 ∷ Text "abc de\nfgh ijk\nlm|" ∷ [])
+    ∷ example "abc de\nf|gh ijk\nlm" (moveRight Document ∷ []) (Crosses 9 1 ∷ Text "abc de\nfgh ijk\nlm|" ∷ [])
     ∷ [])
     ∷ sentence "left to each place"
     (example "abc de\nfgh ij|k\nlm" (moveLeft Character ∷ []) (Goes 1 ∷ Text "abc de\nfgh i|jk\nlm" ∷ [])
     ∷ example "abc de\nfgh ij|k\nlm" (moveLeft Word ∷ []) (Goes 2 ∷ Text "abc de\nfgh |ijk\nlm" ∷ [])
     ∷ example "abc de\nfgh ij|k\nlm" (moveLeft LineBeginning ∷ []) (Goes 6 ∷ Text "abc de\n|fgh ijk\nlm" ∷ [])
-    ∷ example "abc de\nfgh ij|k\nlm" (moveLeft LineEnding ∷ []) (Goes 7 ∷ Text "abc de|\nfgh ijk\nlm" ∷ [])
-    ∷ example "abc de\nfgh ij|k\nlm" (moveLeft Document ∷ []) (Goes 13 ∷ Text "|abc de\nfgh ijk\nlm" ∷ [])
+    ∷ example "abc de\nfgh ij|k\nlm" (moveLeft LineEnding ∷ []) (Crosses 7 1 ∷ Text "abc de|\nfgh ijk\nlm" ∷ [])
+    ∷ example "abc de\nfgh ij|k\nlm" (moveLeft Document ∷ []) (Crosses 13 1 ∷ Text "|abc de\nfgh ijk\nlm" ∷ [])
     ∷ [])
     ∷ sentence "word: nothing, a space or a newline before it, and nothing or neither behind it"
     (example "a|b " (moveRight Word ∷ []) (Goes 2 ∷ Text "ab |" ∷ [])
     ∷ example "a|  b" (moveRight Word ∷ []) (Goes 2 ∷ Text "a  |b" ∷ [])
-    ∷ example "a| \nb" (moveRight Word ∷ []) (Goes 2 ∷ Text "a \n|b" ∷ [])
+    ∷ example "a| \nb" (moveRight Word ∷ []) (Crosses 2 1 ∷ Text "a \n|b" ∷ [])
     ∷ example "a|b" (moveRight Word ∷ []) (Rings ∷ Text "a|b" ∷ [])
     ∷ example "ab|c" (moveLeft Word ∷ []) (Goes 2 ∷ Text "|abc" ∷ [])
     ∷ [])
     ∷ sentence "every line beginning is a word place, that of an empty line too"
-    (example "a|\n\nb" (moveRight Word ∷ []) (Goes 1 ∷ Text "a\n|\nb" ∷ [])
+    (example "a|\n\nb" (moveRight Word ∷ []) (Crosses 1 1 ∷ Text "a\n|\nb" ∷ [])
     ∷ example " a|" (moveLeft Word ∷ moveLeft Word ∷ []) (Goes 1 ∷ Text "| a" ∷ [])
     ∷ [])
     ∷ sentence "line beginning: nothing or a newline before it"
     (example "ab|c" (moveLeft LineBeginning ∷ []) (Goes 2 ∷ Text "|abc" ∷ [])
     ∷ example "a|b" (moveRight LineBeginning ∷ []) (Rings ∷ Text "a|b" ∷ [])
-    ∷ example "a|b\n" (moveRight LineBeginning ∷ []) (Goes 2 ∷ Text "ab\n|" ∷ [])
+    ∷ example "a|b\n" (moveRight LineBeginning ∷ []) (Crosses 2 1 ∷ Text "ab\n|" ∷ [])
     ∷ [])
     ∷ sentence "line ending: nothing or a newline behind it"
     (example "a|bc" (moveRight LineEnding ∷ []) (Goes 2 ∷ Text "abc|" ∷ [])
     ∷ example "a|b" (moveLeft LineEnding ∷ []) (Rings ∷ Text "a|b" ∷ [])
-    ∷ example "\na|b" (moveLeft LineEnding ∷ []) (Goes 2 ∷ Text "|\nab" ∷ [])
+    ∷ example "\na|b" (moveLeft LineEnding ∷ []) (Crosses 2 1 ∷ Text "|\nab" ∷ [])
     ∷ [])
     ∷ sentence "the distance is above 0: from a place the next one is meant"
-    (example "|ab\ncd" (moveRight LineBeginning ∷ []) (Goes 3 ∷ Text "ab\n|cd" ∷ [])
-    ∷ example "ab|\ncd" (moveRight LineEnding ∷ []) (Goes 3 ∷ Text "ab\ncd|" ∷ [])
-    ∷ example "ab\n|cd" (moveLeft LineBeginning ∷ []) (Goes 3 ∷ Text "|ab\ncd" ∷ [])
+    (example "|ab\ncd" (moveRight LineBeginning ∷ []) (Crosses 3 1 ∷ Text "ab\n|cd" ∷ [])
+    ∷ example "ab|\ncd" (moveRight LineEnding ∷ []) (Crosses 3 1 ∷ Text "ab\ncd|" ∷ [])
+    ∷ example "ab\n|cd" (moveLeft LineBeginning ∷ []) (Crosses 3 1 ∷ Text "|ab\ncd" ∷ [])
     ∷ example "ab |cd ef" (moveRight Word ∷ []) (Goes 3 ∷ Text "ab cd |ef" ∷ [])
     ∷ [])
     ∷ sentence "where no place is reachable the text and cursor stay, and the bell is set"
@@ -88,13 +88,13 @@ editPins =
     (example "abc de\nfgh ij|k\nlm" (deleteLeft Character ∷ []) (Goes 1 ∷ Text "abc de\nfgh i|k\nlm" ∷ Recalls "j|" ∷ [])
     ∷ example "abc de\nfgh ij|k\nlm" (deleteLeft Word ∷ []) (Goes 2 ∷ Text "abc de\nfgh |k\nlm" ∷ Recalls "ij|" ∷ [])
     ∷ example "abc de\nfgh ij|k\nlm" (deleteLeft LineBeginning ∷ []) (Goes 6 ∷ Text "abc de\n|k\nlm" ∷ Recalls "fgh ij|" ∷ [])
-    ∷ example "abc de\nfgh ij|k\nlm" (deleteLeft Document ∷ []) (Goes 13 ∷ Text "|k\nlm" ∷ Recalls "abc de\nfgh ij|" ∷ [])
+    ∷ example "abc de\nfgh ij|k\nlm" (deleteLeft Document ∷ []) (Crosses 13 1 ∷ Text "|k\nlm" ∷ Recalls "abc de\nfgh ij|" ∷ [])
     ∷ [])
     ∷ sentence "a deletion rightward removes d bytes, reports d and recalls (empty, x)"
     (example "abc de\nf|gh ijk\nlm" (deleteRight Character ∷ []) (Goes 1 ∷ Text "abc de\nf|h ijk\nlm" ∷ Recalls "|g" ∷ [])
     ∷ example "abc de\nf|gh ijk\nlm" (deleteRight Word ∷ []) (Goes 3 ∷ Text "abc de\nf|ijk\nlm" ∷ Recalls "|gh " ∷ [])
     ∷ example "abc de\nf|gh ijk\nlm" (deleteRight LineEnding ∷ []) (Goes 6 ∷ Text "abc de\nf|\nlm" ∷ Recalls "|gh ijk" ∷ [])
-    ∷ example "abc de\nf|gh ijk\nlm" (deleteRight Document ∷ []) (Goes 9 ∷ Text "abc de\nf|" ∷ Recalls "|gh ijk\nlm" ∷ [])
+    ∷ example "abc de\nf|gh ijk\nlm" (deleteRight Document ∷ []) (Crosses 9 1 ∷ Text "abc de\nf|" ∷ Recalls "|gh ijk\nlm" ∷ [])
     ∷ [])
     ∷ sentence "every deletion with steps sets the recall text; one with the bell leaves it unchanged (M-103)"
     (example "ab|c" (deleteLeft Character ∷ deleteRight Character ∷ []) (Goes 1 ∷ Text "a|" ∷ Recalls "|c" ∷ [])

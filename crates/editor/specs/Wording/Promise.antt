@@ -1,8 +1,9 @@
 -- How the promises of this layer's functions speak: what they ask of lent stores, and their outcome as one value.
 use mathlib.Core.Path.{_≡_}
 use Prim.Native.Nat.{_≤_}
-use Rattle.editor.specs.Words.{List, Bool, true, false, cond, ℕ, _+_, _-_, _*_, leb, length, take, Direction, Left, Right, Search, Reached, Nowhere}
+use Rattle.editor.specs.Words.{List, Bool, true, false, cond, ℕ, _+_, _-_, _*_, leb, length, take, Direction, Left, Right, Search}
 use Rattle.editor.specs.Words.{Mode, Main, Quoted, Sizes, Lengths, Report}
+use Rattle.gap.specs.declared.Search.the-variants as found
 use Rattle.gap.specs.Rules.Sequence.{patch, zeros}
 use Rattle.gap.specs.Rules.Doc.{content}
 use Rattle.gap.specs.Rules.Layout.{gapped, paired, ungap, unpair, IsGap, IsPair}
@@ -21,6 +22,10 @@ use Rattle.editor.specs.Rules.Bytes.{Stores, quarter, quarterOf, sized, 
 abbrev pub roomOf : Direction → Sizes → ℕ
 roomOf Left n = n .l
 roomOf Right n = n .r
+
+-- A distance that was found is within the room.
+abbrev pub InRoom : Search → Direction → ℕ → ℕ → Type 0
+InRoom answer way l r = (d : ℕ) → answer ≡ found.Reached d → d ≤ roomOf way (record { l = l; r = r; rl = 0; rr = 0 })
 
 abbrev pub movedBy : Direction → ℕ → Sizes → Sizes
 movedBy Left d n = record { l = n .l - d; r = n .r + d; rl = n .rl; rr = n .rr }
@@ -154,4 +159,4 @@ pub record Substitutes (here : Bool) (T : ℕ) (p : Plain) : Type 0 where
 
 -- The distance over all of a text of n bytes.
 abbrev pub wholeOf : ℕ → Search
-wholeOf n = cond (leb 1 n) (Reached n) Nowhere
+wholeOf n = cond (leb 1 n) (found.Reached n) found.Nowhere

@@ -127,7 +127,7 @@ module _ (l r : ℕ) (s : List ℕ) where
       let (encodes, holds) = sound-pair l r s e in
       record { fits = omega (arith, encodes .left, encodes .right, encodes .held .fits); holds = holds }
 
-drop-taken : (a k : ℕ) (s : List ℕ) → a + k ≤ length s → drop a (take (a + k) s) ≡ take k (drop a s)
+pub drop-taken : (a k : ℕ) (s : List ℕ) → a + k ≤ length s → drop a (take (a + k) s) ≡ take k (drop a s)
 drop-taken a k s fits = rw take-add (drop-at (take a s) _ a (length-take-le a s (omega arith)))
 
 -- What a gap store of texts of l and r bytes holds: their lengths, and what follows a place of the text, which is a run at the end of

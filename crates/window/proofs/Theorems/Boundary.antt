@@ -191,7 +191,7 @@ module _ (n H W : ℕ) (b : Lent) (accepts : hostOpened n H W b .said .code ≡ 
   unfolding openedText
   host-opening-told =
       subst⁻¹ (λ g. HostTold g (reporting quiet (opening (take n (b .stores .text)))) (start H W)) opened-core
-      (record { code = refl; place = refl; steps = refl; bell = refl; row = refl; column = refl; frame = refl; screen = refl })
+      (record { code = refl; place = refl; steps = refl; lines = refl; bell = refl; row = refl; column = refl; frame = refl; screen = refl })
 
 -- On a session the key in numbers is the plain editor's.
 module _ (n : Record) (x : KeyNumbers) (b : Lent) (fit : tabled (n .rows) (n .columns) b ≡ true) (ok : isHostSession n (b .stores) ≡ true) where
@@ -213,13 +213,13 @@ module _ (n : Record) (x : KeyNumbers) (b : Lent) (fit : tabled (n .rows) (n .co
       subst⁻¹ (λ g. HostFollows g (after (hostHeld n (b .stores)) (key (T (b .stores)) quarter (keyOf x) (hostHeld n (b .stores)))))
       (in-mode n x b low) (given-follows _ _ (key-follows (sessionFrom n) (keyOf x) b fit core-ok))
 
-  -- A key that the plain editor does is told as it did it: steps, bell, and the cursor in the window that the policy gives.
+  -- A key that the plain editor does is told as it did it: steps, lines, bell, and the cursor in the window that the policy gives.
   pub host-key-told : (did : Did Plain) → key (T (b .stores)) quarter (keyOf x) (hostHeld n (b .stores)) ≡ done did
       → HostTold (hostPressed n x b) did (policy (sessionFrom n .frame) (virtual (did .state)))
   unfolding finished shown
   host-key-told did e =
       subst⁻¹ (λ g. HostTold g did (policy (sessionFrom n .frame) (virtual (did .state)))) (in-core (done did) e)
-      (record { code = refl; place = refl; steps = refl; bell = refl; row = refl; column = refl; frame = refl; screen = refl })
+      (record { code = refl; place = refl; steps = refl; lines = refl; bell = refl; row = refl; column = refl; frame = refl; screen = refl })
 
   -- One that the plain editor refuses is refused with the same number.
   pub host-key-refused : (code : ℕ) → key (T (b .stores)) quarter (keyOf x) (hostHeld n (b .stores)) ≡ refused code

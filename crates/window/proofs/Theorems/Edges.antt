@@ -8,6 +8,7 @@ use Rattle.gap.specs.Rules.Nearest.{nearest, distance}
 use Rattle.gap.specs.Rules.Lines.{newlines, sinceAfter, lines}
 use Rattle.gap.specs.Rules.Layout.{gapped, paired, ungap, unpair, soundGap, soundPair}
 use Rattle.gap.specs.Tables.Written.{markedAfter}
+use Rattle.editor.specs.Rules.Passages.{withLines, passageTo}
 use Rattle.editor.specs.Rules.Places.{lineBeginning, lineEnding, word, documentEnd, isAt}
 use Rattle.editor.specs.Rules.Keys.{soundKey, inserted, carried, function, recalled, onSide, quoted, withPattern, searched, found}
 use Rattle.editor.specs.Rules.Keys.{withReplacement, exchanged, substituted, replaced, pressed, fits, bounded, key}
@@ -18,18 +19,18 @@ use Rattle.window.specs.Rules.Core.{tabled, isSession, openedText, opene
 use Rattle.window.specs.Tables.Table.{pressing, moving, outcome, holds, allHold, right, edges, requested}
 
 pub edges-right : right edges ≡ true
-unfolding every sameBytes begins part zeros counted move delete times passed splice nearest distance newlines sinceAfter lines gapped paired
-    ungap unpair soundGap soundPair lineBeginning lineEnding word documentEnd isAt soundKey inserted removed carried function recalled
-    onSide quoted withPattern searched found withReplacement exchanged substituted replaced pressed fits bounded key quarter sized plainOf
-    lengthsOf storesOf editorOk virtualIn rowCells joined window visible policy firstRow lastRow tabled isSession openedText opened shown
-    finished keyed bytes markedAfter pressing moving outcome holds allHold right
+unfolding every sameBytes begins part zeros counted move delete times passed splice nearest distance withLines passageTo newlines sinceAfter
+    lines gapped paired ungap unpair soundGap soundPair lineBeginning lineEnding word documentEnd isAt soundKey inserted removed carried
+    function recalled onSide quoted withPattern searched found withReplacement exchanged substituted replaced pressed fits bounded key
+    quarter sized plainOf lengthsOf storesOf editorOk virtualIn rowCells joined window visible policy firstRow lastRow tabled isSession
+    openedText opened shown finished keyed bytes markedAfter pressing moving outcome holds allHold right
 edges-right = refl
 
 -- So do they with what the change requests tell of.
 pub requests-right : right requested ≡ true
-unfolding every sameBytes begins part zeros counted move delete times passed splice nearest distance newlines sinceAfter lines gapped paired
-    ungap unpair soundGap soundPair lineBeginning lineEnding word documentEnd isAt soundKey inserted removed carried function recalled
-    onSide quoted withPattern searched found withReplacement exchanged substituted replaced pressed fits bounded key quarter sized plainOf
-    lengthsOf storesOf editorOk virtualIn rowCells joined window visible policy firstRow lastRow tabled isSession openedText opened shown
-    finished keyed bytes markedAfter pressing moving outcome holds allHold right
+unfolding every sameBytes begins part zeros counted move delete times passed splice nearest distance withLines passageTo newlines sinceAfter
+    lines gapped paired ungap unpair soundGap soundPair lineBeginning lineEnding word documentEnd isAt soundKey inserted removed carried
+    function recalled onSide quoted withPattern searched found withReplacement exchanged substituted replaced pressed fits bounded key
+    quarter sized plainOf lengthsOf storesOf editorOk virtualIn rowCells joined window visible policy firstRow lastRow tabled isSession
+    openedText opened shown finished keyed bytes markedAfter pressing moving outcome holds allHold right
 requests-right = refl

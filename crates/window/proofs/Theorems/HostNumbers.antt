@@ -8,6 +8,7 @@ use Rattle.gap.specs.Rules.Doc.{move, delete, times, passed, removed, splice}
 use Rattle.gap.specs.Rules.Nearest.{nearest, distance}
 use Rattle.gap.specs.Rules.Lines.{newlines, sinceAfter, lines}
 use Rattle.gap.specs.Rules.Layout.{gapped, paired, ungap, unpair, soundGap, soundPair}
+use Rattle.editor.specs.Rules.Passages.{withLines, passageTo}
 use Rattle.editor.specs.Rules.Places.{lineBeginning, lineEnding, word, documentEnd, isAt}
 use Rattle.editor.specs.Rules.Keys.{soundKey, inserted, carried, function, recalled, onSide, quoted, withPattern, searched, found}
 use Rattle.editor.specs.Rules.Keys.{withReplacement, exchanged, substituted, replaced, pressed, fits, bounded, key}
@@ -31,10 +32,10 @@ names-numbered = (refl, (refl, refl))
 
 -- What calls answer and hand back, and how a record that is no session is refused: SIZE, SESSION, KEY, and the record back as it was.
 pub calls-numbered : (map lastReply callRows ≡ map (λ row. row .reply) callRows)
-    × (map refusedReply refusedRows ≡ map (λ row. record { said = said (row .code) 0 0 0 0 0 0 0; back = row .handed }) refusedRows)
-unfolding every sameBytes begins part zeros counted move delete times passed splice nearest distance newlines sinceAfter lines gapped paired
-    ungap unpair soundGap soundPair lineBeginning lineEnding word documentEnd isAt soundKey inserted removed carried function recalled
-    onSide quoted withPattern searched found withReplacement exchanged substituted replaced pressed fits bounded key quarter sized plainOf
-    lengthsOf storesOf editorOk virtualIn rowCells joined window visible policy firstRow lastRow tabled isSession openedText opened shown
-    finished keyed bytes keyFrom hostOpened hostKeyed pressedOn lastReply refusedReply
+    × (map refusedReply refusedRows ≡ map (λ row. record { said = said (row .code) 0 0 0 0 0 0 0 0; back = row .handed }) refusedRows)
+unfolding every sameBytes begins part zeros counted move delete times passed splice nearest distance withLines passageTo newlines sinceAfter
+    lines gapped paired ungap unpair soundGap soundPair lineBeginning lineEnding word documentEnd isAt soundKey inserted removed carried
+    function recalled onSide quoted withPattern searched found withReplacement exchanged substituted replaced pressed fits bounded key
+    quarter sized plainOf lengthsOf storesOf editorOk virtualIn rowCells joined window visible policy firstRow lastRow tabled isSession
+    openedText opened shown finished keyed bytes keyFrom hostOpened hostKeyed pressedOn lastReply refusedReply
 calls-numbered = (refl, refl)

@@ -12,6 +12,7 @@ use Rattle.gap.specs.Rules.Layout.{gapped, paired, ungap, unpair, soundGap, sou
 use Rattle.gap.specs.Rules.Decimal.{digitsIn, decimal}
 use Rattle.gap.specs.Tables.Sentence.{allOf, broken, itself}
 use Rattle.gap.specs.Tables.Written.{markedAfter, storedAs}
+use Rattle.editor.specs.Rules.Passages.{withLines, passageTo}
 use Rattle.editor.specs.Rules.Places.{lineBeginning, lineEnding, word, documentEnd, isAt}
 use Rattle.editor.specs.Rules.Keys.{soundKey, inserted, carried, function, recalled, onSide, quoted, withPattern, searched, found}
 use Rattle.editor.specs.Rules.Keys.{withReplacement, exchanged, substituted, replaced, pressed, fits, bounded, key}
@@ -33,42 +34,42 @@ use Rattle.window.specs.Tables.CallPins.{sizePins, openingPins, callPins
 use Rattle.window.specs.Tables.TerminalPins.{terminalPins}
 
 pub windows-pinned : broken isRight windowPins ≡ []
-unfolding every sameBytes begins part zeros counted move delete times passed splice nearest distance newlines sinceAfter lines gapped paired
-    ungap unpair soundGap soundPair lineBeginning lineEnding word documentEnd isAt soundKey inserted removed carried function recalled
-    onSide quoted withPattern searched found withReplacement exchanged substituted replaced pressed fits bounded key quarter sized plainOf
-    lengthsOf storesOf editorOk virtualIn rowCells joined window visible policy firstRow lastRow tabled isSession openedText opened shown
-    finished keyed bytes markedAfter pressing moving outcome holds allHold allOf broken
+unfolding every sameBytes begins part zeros counted move delete times passed splice nearest distance withLines passageTo newlines sinceAfter
+    lines gapped paired ungap unpair soundGap soundPair lineBeginning lineEnding word documentEnd isAt soundKey inserted removed carried
+    function recalled onSide quoted withPattern searched found withReplacement exchanged substituted replaced pressed fits bounded key
+    quarter sized plainOf lengthsOf storesOf editorOk virtualIn rowCells joined window visible policy firstRow lastRow tabled isSession
+    openedText opened shown finished keyed bytes markedAfter pressing moving outcome holds allHold allOf broken
 windows-pinned = refl
 
 pub calls-pinned : broken itself (sizePins ++ (openingPins ++ callPins)) ≡ []
-unfolding every sameBytes begins part zeros counted move delete times passed splice nearest distance newlines sinceAfter lines gapped paired
-    ungap unpair soundGap soundPair lineBeginning lineEnding word documentEnd isAt soundKey inserted removed carried function recalled
-    onSide quoted withPattern searched found withReplacement exchanged substituted replaced pressed fits bounded key quarter sized plainOf
-    lengthsOf storesOf editorOk virtualIn rowCells joined window visible policy firstRow lastRow tabled isSession openedText opened shown
-    finished keyed bytes storedAs allOf broken
+unfolding every sameBytes begins part zeros counted move delete times passed splice nearest distance withLines passageTo newlines sinceAfter
+    lines gapped paired ungap unpair soundGap soundPair lineBeginning lineEnding word documentEnd isAt soundKey inserted removed carried
+    function recalled onSide quoted withPattern searched found withReplacement exchanged substituted replaced pressed fits bounded key
+    quarter sized plainOf lengthsOf storesOf editorOk virtualIn rowCells joined window visible policy firstRow lastRow tabled isSession
+    openedText opened shown finished keyed bytes storedAs allOf broken
 calls-pinned = refl
 
 pub terminals-pinned : broken itself terminalPins ≡ []
-unfolding every sameBytes begins part patch zeros counted move delete times passed splice nearest distance newlines sinceAfter lines gapped paired
-    ungap unpair soundGap soundPair lineBeginning lineEnding word documentEnd isAt soundKey inserted removed carried function recalled
-    onSide quoted withPattern searched found withReplacement exchanged substituted replaced pressed fits bounded key quarter sized plainOf
-    lengthsOf storesOf editorOk virtualIn rowCells joined window visible policy firstRow lastRow tabled isSession openedText opened shown
-    finished keyed bytes storedAs digitsIn decimal sentSpot sentRow sentRows sentScreen sendable sending repaint struck typed viewed step feed
-    openedLine struckLine typedLine allOf broken
+unfolding every sameBytes begins part patch zeros counted move delete times passed splice nearest distance withLines passageTo newlines
+    sinceAfter lines gapped paired ungap unpair soundGap soundPair lineBeginning lineEnding word documentEnd isAt soundKey inserted removed
+    carried function recalled onSide quoted withPattern searched found withReplacement exchanged substituted replaced pressed fits bounded
+    key quarter sized plainOf lengthsOf storesOf editorOk virtualIn rowCells joined window visible policy firstRow lastRow tabled isSession
+    openedText opened shown finished keyed bytes storedAs digitsIn decimal sentSpot sentRow sentRows sentScreen sendable sending repaint
+    struck typed viewed step feed openedLine struckLine typedLine allOf broken
 terminals-pinned = refl
 
 pub keys-on-bytes : broken onBytes (placePins ++ (editPins ++ (quotationPins ++ (searchPins ++ replacePins)))) ≡ []
-unfolding every sameBytes begins part zeros counted move delete times passed splice nearest distance newlines sinceAfter lines gapped paired
-    ungap unpair soundGap soundPair lineBeginning lineEnding word documentEnd isAt soundKey inserted removed carried function recalled
-    onSide quoted withPattern searched found withReplacement exchanged substituted replaced pressed fits bounded key quarter sized plainOf
-    lengthsOf storesOf editorOk virtualIn rowCells joined window visible policy firstRow lastRow tabled isSession openedText opened shown
-    finished keyed bytes markedAfter pressing states statesAll onBytes allOf broken
+unfolding every sameBytes begins part zeros counted move delete times passed splice nearest distance withLines passageTo newlines sinceAfter
+    lines gapped paired ungap unpair soundGap soundPair lineBeginning lineEnding word documentEnd isAt soundKey inserted removed carried
+    function recalled onSide quoted withPattern searched found withReplacement exchanged substituted replaced pressed fits bounded key
+    quarter sized plainOf lengthsOf storesOf editorOk virtualIn rowCells joined window visible policy firstRow lastRow tabled isSession
+    openedText opened shown finished keyed bytes markedAfter pressing states statesAll onBytes allOf broken
 keys-on-bytes = refl
 
 -- 01, what a refusal leaves: all four stores as they were; steps, bell, named rows and cursor 0; after opening a record of zeros in mode
 -- MAIN, after a key the record it was given. Every refusal is one of these (opening-leaves, key-leaves in Theorems/Refusals).
 pub refused-opening : (b : Lent) (code place : ℕ) → unopened b code place ≡ record {
-  answer = record { code = code; place = place; report = record { steps = 0; bell = false }; first = 0; last = 0; row = 0; column = 0 };
+  answer = record { code = code; place = place; report = record { steps = 0; lines = 0; bell = false }; first = 0; last = 0; row = 0; column = 0 };
   session = record {
     lengths = record {
       main = record { l = 0; r = 0; rl = 0; rr = 0 };
@@ -85,7 +86,7 @@ pub refused-opening : (b : Lent) (code place : ℕ) → unopened b code place �
 refused-opening b code place = refl
 
 pub refused-key : (s : Session) (b : Lent) (code : ℕ) → turnedDown s b code ≡ record {
-  answer = record { code = code; place = 0; report = record { steps = 0; bell = false }; first = 0; last = 0; row = 0; column = 0 };
+  answer = record { code = code; place = 0; report = record { steps = 0; lines = 0; bell = false }; first = 0; last = 0; row = 0; column = 0 };
   session = s;
   lent = b;
 }

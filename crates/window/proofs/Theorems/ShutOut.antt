@@ -7,12 +7,13 @@ use native.Mathlib.Omega.{arith}
 use lib.ListN.{getD}
 use Rattle.gap.specs.Rules.Sequence.{every, sameBytes, part, zeros, counted}
 use Rattle.gap.specs.Rules.Strings.{bytes}
-use Rattle.gap.specs.Rules.Doc.{move, times, splice}
+use Rattle.gap.specs.Rules.Doc.{move, times, passed, splice}
 use Rattle.gap.specs.Rules.Nearest.{nearest, distance, LeastMoves}
 use Rattle.gap.specs.Rules.Lines.{newlines, sinceAfter, lines}
 use Rattle.gap.specs.Rules.Layout.{gapped, paired, ungap, unpair, soundGap, soundPair}
 use Rattle.gap.proofs.Laws.Tests.{and-left, and-right}
 use Rattle.gap.proofs.Laws.Sequence.{same-equal}
+use Rattle.editor.specs.Rules.Passages.{withLines, passageTo}
 use Rattle.editor.specs.Rules.Places.{lineBeginning, word, isAt}
 use Rattle.editor.specs.Rules.Plain.{quiet, reporting}
 use Rattle.editor.specs.Rules.Keys.{soundKey, inserted, carried, function, onSide, pressed, fits, bounded, key, Unsound}
@@ -45,10 +46,10 @@ computed =
     ∷ p0 .session .lengths .main .l ∷ p1 .session .lengths .main .l ∷ p1 .answer .first ∷ []
 
 numbers : sameBytes computed (0 ∷ 1 ∷ 5 ∷ 3 ∷ 4 ∷ 0 ∷ []) ≡ true
-unfolding computed p0 p1 p2 every sameBytes part zeros counted bytes move times nearest distance newlines sinceAfter lines gapped paired ungap
-    unpair soundGap soundPair lineBeginning word isAt soundKey carried function onSide pressed fits bounded key quarter sized plainOf lengthsOf
-    storesOf editorOk virtualIn rowCells joined window visible policy firstRow lastRow tabled isSession openedText opened shown finished keyed
-    markedAfter pressing moving outcome
+unfolding computed p0 p1 p2 every sameBytes part zeros counted bytes move times nearest distance passed withLines passageTo newlines
+    sinceAfter lines gapped paired ungap unpair soundGap soundPair lineBeginning word isAt soundKey carried function onSide pressed fits
+    bounded key quarter sized plainOf lengthsOf storesOf editorOk virtualIn rowCells joined window visible policy firstRow lastRow tabled
+    isSession openedText opened shown finished keyed markedAfter pressing moving outcome
 numbers = refl
 
 fact : (i : ℕ) → getD computed i 0 ≡ getD (0 ∷ 1 ∷ 5 ∷ 3 ∷ 4 ∷ 0 ∷ []) i 0
@@ -180,7 +181,7 @@ inventing steps s k b =
           record {
             code = a .code;
             place = a .place;
-            report = record { steps = steps s k b; bell = a .report .bell };
+            report = record { steps = steps s k b; lines = a .report .lines; bell = a .report .bell };
             first = a .first;
             last = a .last;
             row = a .row;

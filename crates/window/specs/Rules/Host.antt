@@ -171,6 +171,7 @@ saidOf a =
       code = a .code;
       place = a .place;
       steps = a .report .steps;
+      lines = a .report .lines;
       bell = bit (a .report .bell);
       first = a .first;
       last = a .last;
@@ -183,7 +184,7 @@ answerFrom said =
     record {
       code = said .code;
       place = said .place;
-      report = record { steps = said .steps; bell = eqb (said .bell) 1 };
+      report = record { steps = said .steps; lines = said .lines; bell = eqb (said .bell) 1 };
       first = said .first;
       last = said .last;
       row = said .row;

@@ -93,8 +93,8 @@ openingPins =
     (0 ∷ 0 ∷ 2 ∷ 3 ∷ [])
     ∷ isBytes (openedUsed .lent .screen) "ab c  "
     ∷ answers 0 0 openedUsed
-    ∷ sameBytes (openedUsed .answer .report .steps ∷ openedUsed .answer .first ∷ openedUsed .answer .last ∷ openedUsed .answer .row ∷ openedUsed .answer .column ∷ [])
-    (0 ∷ 1 ∷ 2 ∷ 1 ∷ 0 ∷ [])
+    ∷ sameBytes (openedUsed .answer .report .steps ∷ openedUsed .answer .report .lines ∷ []) (0 ∷ 0 ∷ [])
+    ∷ sameBytes (openedUsed .answer .first ∷ openedUsed .answer .last ∷ openedUsed .answer .row ∷ openedUsed .answer .column ∷ []) (1 ∷ 2 ∷ 1 ∷ 0 ∷ [])
     ∷ sameBool (openedUsed .answer .report .bell) false
     ∷ eqb (opened 1 2 3 (record { stores = used (bytes "a") .stores; screen = bytes "a     " }) .answer .last) 2
     ∷ [])

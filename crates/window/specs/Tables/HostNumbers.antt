@@ -62,10 +62,10 @@ noKeys = numbers 0 256 0 0 ∷ numbers 1 2 0 0 ∷ numbers 1 0 2 0 ∷ numbers 1
 
 -- ---- Calls
 
--- The answer's eight numbers and the record's sixteen, in the order in which hosts have them.
-abbrev pub said : ℕ → ℕ → ℕ → ℕ → ℕ → ℕ → ℕ → ℕ → Said
-said code place steps bell first last row column =
-    record { code = code; place = place; steps = steps; bell = bell; first = first; last = last; row = row; column = column }
+-- The answer's nine numbers and the record's sixteen, in the order in which hosts have them.
+abbrev pub said : ℕ → ℕ → ℕ → ℕ → ℕ → ℕ → ℕ → ℕ → ℕ → Said
+said code place steps lines bell first last row column =
+    record { code = code; place = place; steps = steps; lines = lines; bell = bell; first = first; last = last; row = row; column = column }
 
 abbrev pub back : ℕ → ℕ → ℕ → ℕ → ℕ → ℕ → ℕ → ℕ → ℕ → ℕ → ℕ → ℕ → ℕ → ℕ → ℕ → ℕ → Record
 back l r ql qr rl rr qrl qrr xl xr pl mode top left rows columns =
@@ -126,31 +126,31 @@ quoting s after = numbers 3 0 0 0 ∷ (map (λ b. numbers 0 b 0 0) (bytes s) ++ 
 abbrev pub callRows : List CallRow
 callRows =
     -- Opened, and refused with TEXT at byte 2.
-    calls "abc" [] (said 0 0 0 0 1 5 1 0) (back 0 3 0 0 0 0 0 0 0 0 0 0 0 0 5 6)
-    ∷ calls "ab^" [] (said 3 2 0 0 0 0 0 0) (back 0 0 0 0 0 0 0 0 0 0 0 0 0 0 0 0)
+    calls "abc" [] (said 0 0 0 0 0 1 5 1 0) (back 0 3 0 0 0 0 0 0 0 0 0 0 0 0 5 6)
+    ∷ calls "ab^" [] (said 3 2 0 0 0 0 0 0 0) (back 0 0 0 0 0 0 0 0 0 0 0 0 0 0 0 0)
     -- An insert; a move that finds no place; numbers that name no key.
-    ∷ calls "bc" (numbers 0 97 0 0 ∷ []) (said 0 0 0 0 1 1 1 1) (back 1 2 0 0 0 0 0 0 0 0 0 0 0 0 5 6)
-    ∷ calls "bc" (numbers 1 0 0 0 ∷ []) (said 0 0 0 1 0 0 1 0) (back 0 2 0 0 0 0 0 0 0 0 0 0 0 0 5 6)
-    ∷ calls "bc" (numbers 6 0 0 0 ∷ []) (said 5 0 0 0 0 0 0 0) (back 0 2 0 0 0 0 0 0 0 0 0 0 0 0 5 6)
-    -- Right to the line's ending, and then right to the document's end is deleted: seven bytes, in rows 4 and 5. RECALL puts them back.
-    ∷ calls "ab$$$ef$g" (numbers 1 0 1 3 ∷ numbers 1 1 1 4 ∷ []) (said 0 0 7 0 4 5 1 2) (back 2 0 0 0 0 7 0 0 0 0 0 0 0 0 5 6)
-    ∷ calls "ab$$$ef$g" (numbers 1 0 1 3 ∷ numbers 1 1 1 4 ∷ numbers 2 0 0 0 ∷ []) (said 0 0 0 0 4 5 1 2)
+    ∷ calls "bc" (numbers 0 97 0 0 ∷ []) (said 0 0 0 0 0 1 1 1 1) (back 1 2 0 0 0 0 0 0 0 0 0 0 0 0 5 6)
+    ∷ calls "bc" (numbers 1 0 0 0 ∷ []) (said 0 0 0 0 1 0 0 1 0) (back 0 2 0 0 0 0 0 0 0 0 0 0 0 0 5 6)
+    ∷ calls "bc" (numbers 6 0 0 0 ∷ []) (said 5 0 0 0 0 0 0 0 0) (back 0 2 0 0 0 0 0 0 0 0 0 0 0 0 5 6)
+    -- Right to the line's ending, and then right to the document's end is deleted: seven bytes, four of them newlines, in rows 4 and 5. RECALL puts them back.
+    ∷ calls "ab$$$ef$g" (numbers 1 0 1 3 ∷ numbers 1 1 1 4 ∷ []) (said 0 0 7 4 0 4 5 1 2) (back 2 0 0 0 0 7 0 0 0 0 0 0 0 0 5 6)
+    ∷ calls "ab$$$ef$g" (numbers 1 0 1 3 ∷ numbers 1 1 1 4 ∷ numbers 2 0 0 0 ∷ []) (said 0 0 0 0 0 4 5 1 2)
     (back 2 7 0 0 0 7 0 0 0 0 0 0 0 0 5 6)
     -- Right to the second line's ending, and then left to its beginning is deleted.
-    ∷ calls "ab$cdef" (numbers 1 0 1 3 ∷ numbers 1 0 1 3 ∷ numbers 1 1 0 2 ∷ []) (said 0 0 4 0 2 2 2 0)
+    ∷ calls "ab$cdef" (numbers 1 0 1 3 ∷ numbers 1 0 1 3 ∷ numbers 1 1 0 2 ∷ []) (said 0 0 4 0 0 2 2 2 0)
     (back 3 0 0 0 4 0 0 0 0 0 0 0 0 0 5 6)
     -- In a quotation a word is deleted to the left, behind eight bytes of a document of ten; the window has followed the cursor.
     ∷ calls "$$$$$$$xyz" (numbers 1 0 1 4 ∷ numbers 1 0 0 0 ∷ numbers 1 0 0 0 ∷ quoting "abcdefghij klm" (numbers 1 1 0 1 ∷ numbers 1 0 0 0 ∷ []))
-    (said 0 0 1 0 0 0 5 2) (back 8 2 10 1 0 0 3 0 0 0 0 1 4 9 5 6)
+    (said 0 0 1 0 0 0 0 5 2) (back 8 2 10 1 0 0 3 0 0 0 0 1 4 9 5 6)
     -- And one to the right.
-    ∷ calls "" (quoting "ab cde gh" (numbers 1 0 0 1 ∷ numbers 1 0 0 1 ∷ numbers 1 1 1 1 ∷ [])) (said 0 0 4 0 2 2 2 0)
+    ∷ calls "" (quoting "ab cde gh" (numbers 1 0 0 1 ∷ numbers 1 0 0 1 ∷ numbers 1 1 1 1 ∷ [])) (said 0 0 4 0 0 2 2 2 0)
     (back 0 0 3 2 0 0 0 4 0 0 0 1 0 4 5 6)
     -- REPLACE takes the quotation, cut at its cursor; a move to the end follows.
-    ∷ calls "" (quoting "aa bbbb" (numbers 1 0 0 1 ∷ numbers 5 0 0 0 ∷ numbers 1 0 1 4 ∷ [])) (said 0 0 4 0 0 0 1 5)
+    ∷ calls "" (quoting "aa bbbb" (numbers 1 0 0 1 ∷ numbers 5 0 0 0 ∷ numbers 1 0 1 4 ∷ [])) (said 0 0 4 0 0 0 0 1 5)
     (back 7 0 0 0 0 0 0 0 3 4 0 0 0 2 5 6)
     -- FIND takes the quotation as its pattern and goes right, UPFIND goes back.
-    ∷ calls "ab ab" (quoting "ab" (numbers 4 1 0 0 ∷ [])) (said 0 0 3 0 1 3 1 3) (back 3 2 0 0 0 0 0 0 0 0 2 0 0 0 5 6)
-    ∷ calls "ab ab" (quoting "ab" (numbers 4 1 0 0 ∷ numbers 4 0 0 0 ∷ [])) (said 0 0 3 0 0 0 1 0) (back 0 5 0 0 0 0 0 0 0 0 2 0 0 0 5 6)
+    ∷ calls "ab ab" (quoting "ab" (numbers 4 1 0 0 ∷ [])) (said 0 0 3 0 0 1 3 1 3) (back 3 2 0 0 0 0 0 0 0 0 2 0 0 0 5 6)
+    ∷ calls "ab ab" (quoting "ab" (numbers 4 1 0 0 ∷ numbers 4 0 0 0 ∷ [])) (said 0 0 3 0 0 0 0 1 0) (back 0 5 0 0 0 0 0 0 0 0 2 0 0 0 5 6)
     ∷ []
 
 -- ---- Records that are no session

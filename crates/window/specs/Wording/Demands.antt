@@ -2,10 +2,12 @@
 use mathlib.Core.Path.{_≡_}
 use mathlib.Core.Logic.{_↔_, _≢_}
 use Prim.Native.Nat.{_≤_, _<_}
-use Rattle.window.specs.Words.{List, Bool, true, false, ℕ, _-_, Direction, Action, Move, Delete, Mode, Main, Quoted, Key, Session}
+use Rattle.window.specs.Words.{List, Bool, true, false, ℕ, _+_, _-_, Direction, Left, Right, Action, Move, Delete, Mode, Main, Quoted, Key, Session}
 use Rattle.gap.specs.Rules.Doc.{Doc, content, room, move, delete, times}
 use Rattle.gap.specs.Rules.Nearest.{LeastMoves}
+use Rattle.gap.specs.Rules.Lines.{newlines}
 use Rattle.editor.specs.Rules.Refusals.{SIZE, SESSION, KEY, FULL, ROOM}
+use Rattle.editor.specs.Rules.Passages.{linesPassed}
 use Rattle.editor.specs.Rules.Plain.{Plain, rang, went, Did, done}
 use Rattle.editor.specs.Rules.Keys.{pressed, key, Unsound, Exceeds}
 use Rattle.editor.specs.Rules.Bytes.{quarter, lengthsOf, storesOf}
@@ -32,7 +34,7 @@ pub record Carried (s : Session) (k : Key) (b : Lent) (o : Called) : Type 0 wher
   pub holds : held (o .session) (o .lent .stores) ≡ did .state
   pub lengths : o .session .lengths ≡ lengthsOf (did .state)
   pub stores : o .lent .stores ≡ storesOf (T (b .stores)) quarter (did .state)
-  -- Steps and bell are the plain editor's report; place is 0.
+  -- Steps, lines and bell are the plain editor's report; place is 0.
   pub place : o .answer .place ≡ 0
   pub report : o .answer .report ≡ did .report
   -- The screen is the window of that state under the policy's offsets, in which the cursor is visible.
@@ -53,7 +55,7 @@ pub record KeyDoes (s : Session) (k : Key) (b : Lent) (o : Called) : Type 0 wher
       ↔ (OnSession s b × (¬ Unsound k) × Exceeds (T (b .stores)) quarter (pressed k (held s (b .stores)) .state))
   pub accepted : (o .answer .code ≡ 0)
       ↔ (OnSession s b × (¬ Unsound k) × (¬ Exceeds (T (b .stores)) quarter (pressed k (held s (b .stores)) .state)))
-  -- Refused, the record comes back and no byte of the four stores has changed; place, steps, bell, rows and cursor are 0.
+  -- Refused, the record comes back and no byte of the four stores has changed; place, steps, lines, bell, rows and cursor are 0.
   pub refused : o .answer .code ≢ 0 → o ≡ turnedDown s b (o .answer .code)
   -- Accepted, it is the plain editor's key.
   pub carried : o .answer .code ≡ 0 → Carried s k b o
@@ -75,9 +77,9 @@ abbrev pub singly : Action → Direction → Doc → Doc
 singly Move way d = move way d
 singly Delete way d = delete way d
 
--- Accepted, with n steps and no bell; accepted, with 0 steps and the bell.
-abbrev pub Went : Called → ℕ → Type 0
-Went o n = (o .answer .code ≡ 0) × (o .answer .report ≡ went n)
+-- Accepted, with n steps over so many newlines and no bell; accepted, with 0 steps, 0 lines and the bell.
+abbrev pub Went : Called → ℕ → ℕ → Type 0
+Went o n lines = (o .answer .code ≡ 0) × (o .answer .report ≡ went n lines)
 
 abbrev pub Rang : Called → Type 0
 Rang o = (o .answer .code ≡ 0) × (o .answer .report ≡ rang)
@@ -87,10 +89,27 @@ abbrev pub Unreached : Direction → (Doc → Bool) → Doc → Type 0
 Unreached way place d = (n : ℕ) → 0 < n → n ≤ room way d → place (times (move way) n d) ≡ false
 
 -- 01, distance: steps n and no bell exactly when n is the least number above 0 of moves that reach the place; steps 0 and the bell exactly
--- when no number does.
+-- when no number does. 02, M-104: lines are the newlines among the bytes that these n moves cross.
 pub record StepsTo (way : Direction) (place : Doc → Bool) (d : Doc) (o : Called) : Type 0 where
-  pub steps : (n : ℕ) → Went o n ↔ LeastMoves way place d n
+  pub steps : (n : ℕ) → Went o n (linesPassed way n d) ↔ LeastMoves way place d n
   pub bell : Rang o ↔ Unreached way place d
+
+-- ---- 02, M-104: lines
+
+-- From text d to text e so many newlines were crossed: they are what lies between the two cursors, or what the deletion took away, from before
+-- the cursor or from behind it.
+abbrev pub Crosses : Action → Direction → Doc → Doc → ℕ → Type 0
+Crosses Move Left d e lines = newlines (d .l) ≡ newlines (e .l) + lines
+Crosses Move Right d e lines = newlines (e .l) ≡ newlines (d .l) + lines
+Crosses Delete Left d e lines = newlines (d .l) ≡ newlines (e .l) + lines
+Crosses Delete Right d e lines = newlines (d .r) ≡ newlines (e .r) + lines
+
+-- The cursor's row goes from one to another over so many lines: up to the left, down to the right; a deletion to the right leaves it.
+abbrev pub RowsApart : Action → Direction → ℕ → ℕ → ℕ → Type 0
+RowsApart Move Left before after lines = before ≡ after + lines
+RowsApart Move Right before after lines = after ≡ before + lines
+RowsApart Delete Left before after lines = before ≡ after + lines
+RowsApart Delete Right before after lines = after ≡ before
 
 -- ---- Demand 3: named rows at every key of a run
 

@@ -58,6 +58,7 @@ pub record HostTold (g : Given) (did : Did Plain) (f : Frame) : Type 0 where
   pub code : g .said .code ≡ 0
   pub place : g .said .place ≡ 0
   pub steps : g .said .steps ≡ did .report .steps
+  pub lines : g .said .lines ≡ did .report .lines
   pub bell : g .said .bell ≡ bit (did .report .bell)
   pub row : g .said .row ≡ rowOf (virtual (did .state)) - f .r
   pub column : g .said .column ≡ columnOf (virtual (did .state)) - f .c
