@@ -33,7 +33,8 @@ use Rattle.window.specs.Rules.Window.{virtual, virtualIn, rowOf, columnO
 use Rattle.window.specs.Rules.Core.{Lent, Called, T, rowsAndColumns, tabled, isSession, shown, finished, keyed, held, lentOf}
 use Rattle.window.specs.Rules.Rows.{firstRow, lastRow}
 use Rattle.window.specs.Wording.Painter.{Canvas}
-use Rattle.window.specs.Wording.Calls.{newlinesLeft, LeftCounted, sessionTest, spotIn, visibleAt, policyAt, Texts, virtualHeld, Refreshed, lent, called, turnedDownReply, reported}
+use Rattle.window.specs.Wording.Calls.{newlinesLeft, LeftCounted, sessionTest, spotIn, visibleAt, policyAt, Texts, virtualHeld}
+use Rattle.window.specs.Wording.Calls.{Refreshed, lent, called, turnedDownReply, reported}
 use Rattle.window.proofs.Laws.Window.{policy-visible, Visible, visible-says}
 use Rattle.window.proofs.Laws.Views.{tabled-facts, session-view, session-keyed}
 use Rattle.editor.proofs.Laws.Encoding.{plain-of-encoded, session-encoded, encoded-sized, encoded-ok}
@@ -299,7 +300,8 @@ module _ (s : Session) (k : Key) (b : Lent) (fit : tabled (s .frame .h) (s .fram
       let long = ap T same ∙ length-gapped (T (b .stores)) (did .state .main .text) (kept .text .fits) in
       let o = shown (s .frame) (record { stores = after; screen = b .screen }) did in
       let (sound-key, room, did-so) = accepted (T (b .stores)) quarter k (held s (b .stores)) did .0 outcome in
-      let left-so = subst (λ d. LeftKept (held s (b .stores) .main .text) (d .state .main .text) (d .report .lines)) did-so (left-kept k (held s (b .stores))) in
+      let p = held s (b .stores) in
+      let left-so = subst (λ d. LeftKept (p .main .text) (d .state .main .text) (d .report .lines)) did-so (left-kept k p) in
       let n = s .lengths .main in
       let document = fitting quarter (s .lengths) (b .stores) (session-sound s b fit ok) .document in
       let counted = counted-left (n .l) (n .r) (T (b .stores)) (did .report .lines) (b .stores .text) (did .state .main .text) document left-so in
@@ -310,7 +312,9 @@ module _ (s : Session) (k : Key) (b : Lent) (fit : tabled (s .frame .h) (s .fram
             ap (shown (s .frame) (record { stores = after; screen = b .screen })) (λ i. record { state = state i; report = report i })
             ∙ (ap (λ t. record { answer = o .answer; session = o .session; lent = lentOf t (did .state) (o .session .frame) }) long
             ∙ (ap (finished s b) (sym outcome) ∙ sym (session-keyed s k b fit ok)));
-        left = transport (λ i. LeftCounted (newlinesLeft (n .l) (b .stores .text)) (n .l) (sym lengths i .main .l) (sym report i .lines) (sym same i .text)) counted;
+        left =
+            transport
+            (λ i. LeftCounted (newlinesLeft (n .l) (b .stores .text)) (n .l) (sym lengths i .main .l) (sym report i .lines) (sym same i .text)) counted;
       }
 
   pub press-done : record { reply = r; stores = after } ≡ editedTo quarter (s .lengths) (b .stores) (key (T (b .stores)) quarter k (held s (b .stores)))
