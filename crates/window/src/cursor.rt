@@ -24,7 +24,8 @@ pub fn newlines_left(n: Lengths, text: &[u8]) -> usize
     count_newlines(&text[..l])
 }
 
-// The same after a key: counted in what the text left of the cursor has gained, or without those that the key reports to be gone from it.
+// The same after a key: with the lines that it reports, or without them. Where it reports none they are counted in what the text left of the
+// cursor has gained.
 pub fn newlines_after(above: usize, was: Sizes, done: EditorReply, text: &[u8]) -> usize
     requires { ⌜ done .lengths .main .l ≤ length (now text) ⌝ }
     requires { ⌜ LeftCounted above (was .l) (done .lengths .main .l) (done .report .lines) (now text) ⌝ }
@@ -35,10 +36,14 @@ pub fn newlines_after(above: usize, was: Sizes, done: EditorReply, text: &[u8]) 
     let main = lengths.main;
     let l = was.l;
     let m = main.l;
-    if l <= m {
-        return above + count_newlines(&text[l..m]);
+    let lines = report.lines;
+    if m < l {
+        return above - lines;
     }
-    above - report.lines
+    if (l < m) & (0 < lines) {
+        return above + lines;
+    }
+    above + count_newlines(&text[l..m])
 }
 
 // Row from 1 and column from 0, over the texts left of the cursor only.

@@ -1,5 +1,5 @@
--- What a key leaves of the text left of the document's cursor: that text grows at its end, or it is cut there, and then the key reports the
--- newlines that went. So the cursor's row after a key follows from its row before. (02, M-104.)
+-- What a key leaves of the text left of the document's cursor: that text grows at its end, or it is cut there; lines that the key reports are
+-- the newlines that came or went. So the cursor's row after a key follows from its row before. (02, M-104.)
 use mathlib.Core.Path.{_≡_, refl, sym, ap, _∙_}
 use mathlib.Core.Bool.{Bool, true, false, cond}
 use mathlib.Core.List.{List, [], _++_, append-nil}
@@ -20,22 +20,25 @@ use Rattle.editor.specs.Rules.Passages.{withLines, passageTo}
 use Rattle.editor.specs.Rules.Plain.{Side, Plain, quiet, rang, Did, reporting}
 use Rattle.editor.specs.Rules.Keys.{inserted, carried, function, recalled, sideOf, withSide, onSide, quoted, withPattern, matches, searched, found}
 use Rattle.editor.specs.Rules.Keys.{withReplacement, exchanged, substituted, replaced, pressed}
-use Rattle.editor.proofs.Theorems.LinesCrossed.{moved-left, deleted-left}
+use Rattle.editor.proofs.Theorems.LinesCrossed.{moved-left, moved-right, deleted-left}
 
 pub record LeftKept (d e : Doc) (lines : ℕ) : Type 0 where
   pub grown : length (d .l) ≤ length (e .l) → take (length (d .l)) (e .l) ≡ d .l
+  pub gained : length (d .l) < length (e .l) → 1 ≤ lines → newlines (e .l) ≡ newlines (d .l) + lines
   pub cut : length (e .l) < length (d .l) → newlines (d .l) ≡ newlines (e .l) + lines
 
 module _ {d e : Doc} {lines : ℕ} where
-  extended : (x : List ℕ) → e .l ≡ d .l ++ x → LeftKept d e lines
-  extended x same =
+  extended : (x : List ℕ) → e .l ≡ d .l ++ x → (length (d .l) < length (e .l) → 1 ≤ lines → newlines (e .l) ≡ newlines (d .l) + lines)
+      → LeftKept d e lines
+  extended x same gained =
       record {
         grown = λ _. ap (take (length (d .l))) same ∙ take-append-seam (d .l) x;
+        gained = gained;
         cut = λ short. absurd (omega (arith, short, ap length same, length-append (d .l) x));
       }
 
   stayed : e .l ≡ d .l → LeftKept d e lines
-  stayed same = extended [] (same ∙ sym (append-nil (d .l)))
+  stayed same = extended [] (same ∙ sym (append-nil (d .l))) (λ more some. absurd (omega (arith, more, ap length same)))
 
   shortened : (n : ℕ) → e .l ≡ take (length (d .l) - n) (d .l) → newlines (d .l) ≡ newlines (e .l) + lines → LeftKept d e lines
   shortened n same counted =
@@ -43,8 +46,13 @@ module _ {d e : Doc} {lines : ℕ} where
         grown = λ long.
             let all : length (d .l) ≤ length (d .l) - n = omega (arith, long, ap length same, length-take (length (d .l) - n) (d .l)) in
             ap (take (length (d .l))) (same ∙ take-all (length (d .l) - n) (d .l) all) ∙ take-length (d .l);
+        gained = λ more some. absurd (omega (arith, more, ap length same, length-take (length (d .l) - n) (d .l)));
         cut = λ _. counted;
       }
+
+-- A key that inserts reports no lines.
+inserted-left : {d e : Doc} (x : List ℕ) → e .l ≡ d .l ++ x → LeftKept d e 0
+inserted-left x same = extended x same (λ more some. absurd (omega (arith, some)))
 
 -- A change that takes nothing from the left puts its own left half at the end.
 splice-left : (b : ℕ) (x d : Doc) → splice 0 b x d .l ≡ d .l ++ x .l
@@ -63,7 +71,8 @@ carried-left : (action : Action) (way : Direction) (s : Side) (answer : Search)
     → let did = carried action way (withLines way (s .text) answer) s in LeftKept (s .text) (did .state .text) (did .report .lines)
 unfolding carried withLines
 carried-left Move Left s (found.Reached n) = shortened n (ap (λ e. e .l) (moves-left n (s .text))) (moved-left n (s .text))
-carried-left Move Right s (found.Reached n) = extended (take n (s .text .r)) (ap (λ e. e .l) (moves-right n (s .text)))
+carried-left Move Right s (found.Reached n) =
+    extended (take n (s .text .r)) (ap (λ e. e .l) (moves-right n (s .text))) (λ more some. moved-right n (s .text))
 carried-left Delete Left s (found.Reached n) = shortened n (taken-left n (s .text)) (deleted-left n (s .text))
 carried-left Delete Right s (found.Reached n) =
     stayed (ap (λ e. e .l) (deletions-right n (s .text)) ∙ (splice-left n _ (s .text) ∙ append-nil (s .text .l)))
@@ -98,7 +107,7 @@ exchanged-left : (q : Plain) (test : Bool)
     → let did = cond test (reporting quiet (withSide Main (exchanged q) q)) (reporting rang q) in
     LeftKept (q .main .text) (did .state .main .text) (did .report .lines)
 unfolding exchanged
-exchanged-left q true = extended (q .replacement .l) (splice-left _ (q .replacement) (q .main .text))
+exchanged-left q true = inserted-left (q .replacement .l) (splice-left _ (q .replacement) (q .main .text))
 exchanged-left q false = stayed refl
 
 replaced-left : (mode : Mode) (p : Plain)
@@ -111,9 +120,9 @@ replaced-left Quoted p = exchanged-left (withReplacement Quoted p) (matches (p .
 
 pub left-kept : (k : Key) (p : Plain) → LeftKept (p .main .text) (pressed k p .state .main .text) (pressed k p .report .lines)
 unfolding pressed inserted function recalled quoted found replaced
-left-kept (Insert b) p = on-side-left (inserted b) (λ s. extended _ (splice-left 0 _ (s .text))) p
+left-kept (Insert b) p = on-side-left (inserted b) (λ s. inserted-left _ (splice-left 0 _ (s .text))) p
 left-kept (Function action way place) p = on-side-left (function action way place) (moved-so action way (isAt place way)) p
-left-kept Recall p = on-side-left recalled (λ s. extended (s .recall .l) (splice-left 0 (s .recall) (s .text))) p
+left-kept Recall p = on-side-left recalled (λ s. inserted-left (s .recall .l) (splice-left 0 (s .recall) (s .text))) p
 left-kept Quote p = stayed refl
 left-kept (Find way) p = found-left way (p .mode) p
 left-kept Replace p = replaced-left (p .mode) p

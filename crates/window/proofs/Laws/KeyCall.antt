@@ -211,6 +211,9 @@ left-gained l m lines above between text counted more run =
     ap₂ (λ a b. a + b) (counted .grown more) run
     ∙ sym (ap (λ k. newlines (take k text)) whole ∙ (ap newlines (take-add l (m - l) text) ∙ newlines-append (take l text) _))
 
+pub left-told : (l m lines above : ℕ) (text : List ℕ) → LeftCounted above l m lines text → l < m → 0 < lines → above + lines ≡ newlinesLeft m text
+left-told l m lines above text counted more some = sym (counted .gained more some)
+
 pub left-lost : (l m lines above : ℕ) (text : List ℕ) → LeftCounted above l m lines text → m < l → above - lines ≡ newlinesLeft m text
 left-lost l m lines above text counted fewer = omega (arith, counted .cut fewer)
 
@@ -226,6 +229,7 @@ counted-left l r size lines text e fits kept =
           let front = take-take l (length (e .l)) (gapped size e) h in
           ap newlines
           (sym (sym front ∙ (ap (take l) seam ∙ (ap (λ k. take k (e .l)) (sym long) ∙ kept .grown (omega (arith, long, h))))));
+      gained = λ h some. ap newlines seam ∙ kept .gained (omega (arith, long, h)) some;
       cut = λ h. kept .cut (omega (arith, long, h)) ∙ ap (λ s. newlines s + lines) (sym seam);
     }
 

@@ -24,10 +24,11 @@ use Rattle.window.specs.Rules.Core.{Lent, Called, tabled, isSession, ref
 abbrev pub newlinesLeft : ℕ → List ℕ → ℕ
 newlinesLeft l text = newlines (take l text)
 
--- A key has made l bytes left of the cursor to m: where these are no fewer, the l bytes still have the newlines counted in them before;
--- else those newlines that are gone are the lines that it reports.
+-- A key has made l bytes left of the cursor to m: where these are no fewer, the l bytes still have the newlines counted in them before; where they
+-- are more or fewer, lines that it reports are the newlines that came or went.
 pub record LeftCounted (above l m lines : ℕ) (text : List ℕ) : Type 0 where
   pub grown : l ≤ m → above ≡ newlinesLeft l text
+  pub gained : l < m → 1 ≤ lines → newlinesLeft m text ≡ above + lines
   pub cut : m < l → above ≡ newlinesLeft m text + lines
 
 -- What the session test finds.
