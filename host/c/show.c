@@ -47,7 +47,8 @@ static size_t print(const char *what, struct chidukwore_reply reply)
         printf("%s: refused %zu\n", what, a.code);
         return a.code;
     }
-    printf("%s: steps %zu, bell %zu, rows %zu to %zu, cursor %zu %zu\n", what, a.steps, a.bell, a.first, a.last, a.row, a.column);
+    printf("%s: steps %zu, lines %zu, bell %zu, rows %zu to %zu, cursor %zu %zu\n", what, a.steps, a.lines, a.bell, a.first, a.last, a.row,
+           a.column);
     send(a);
     return a.code;
 }

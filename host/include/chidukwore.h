@@ -87,6 +87,7 @@ struct chidukwore_answer {
     size_t code;        /* 0, or a refusal */
     size_t place;       /* for CHIDUKWORE_TEXT only */
     size_t steps;       /* of moves, deletions and searches */
+    size_t lines;       /* the newlines that these steps went over or removed */
     size_t bell;        /* 1 where no place or match was found */
     size_t first, last; /* the rows to repaint, from 1; 0 and 0: none */
     size_t row, column; /* the cursor on the screen: rows from 1, columns from 0 up to and including columns */

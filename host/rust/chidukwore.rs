@@ -31,6 +31,7 @@ pub struct Answer {
     pub code: usize,
     pub place: usize,
     pub steps: usize,
+    pub lines: usize,
     pub bell: usize,
     pub first: usize,
     pub last: usize,

@@ -50,8 +50,8 @@ impl Bench {
             println!("{what}: refused {}", a.code);
             return false;
         }
-        let Answer { steps, bell, first, last, row, column, .. } = a;
-        println!("{what}: steps {steps}, bell {bell}, rows {first} to {last}, cursor {row} {column}");
+        let Answer { steps, lines, bell, first, last, row, column, .. } = a;
+        println!("{what}: steps {steps}, lines {lines}, bell {bell}, rows {first} to {last}, cursor {row} {column}");
         self.send(a);
         true
     }

@@ -4,4 +4,5 @@ pub mod Sessions
 pub mod Refusals
 pub mod Recall
 pub mod LinesCrossed
+pub mod LeftTexts
 pub mod Pins

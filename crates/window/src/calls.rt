@@ -3,9 +3,12 @@ use crate::Answer;
 use crate::Frame;
 use crate::Reply;
 use crate::Session;
+use crate::SessionTest;
 use crate::cursor::cursor;
 use crate::cursor::follow;
 use crate::cursor::is_visible;
+use crate::cursor::newlines_after;
+use crate::cursor::newlines_left;
 use crate::painter::refresh;
 use editor::EditorReply;
 use editor::Key;
@@ -27,9 +30,9 @@ ghost use Prim.Native.Nat.{_*_, _≤_};
 ghost use lib.ListN.{length};
 ghost use Rattle.editor.specs.Rules.Bytes.{quarter, sized};
 ghost use Rattle.editor.specs.Wording.Promise.{stores};
-ghost use Rattle.window.specs.Rules.Core.{rowsAndColumns, tabled, isSession, refusal, openedText};
+ghost use Rattle.window.specs.Rules.Core.{rowsAndColumns, tabled, refusal, openedText};
 ghost use Rattle.window.specs.Wording.Promise.{OpenPromise, KeyPromise};
-ghost use Rattle.window.specs.Wording.Calls.{Texts, lent, called, unopenedReply, turnedDownReply, Shows};
+ghost use Rattle.window.specs.Wording.Calls.{newlinesLeft, sessionTest, Texts, lent, called, unopenedReply, turnedDownReply, Shows};
 
 // ---- Sizes and sessions
 
@@ -57,17 +60,21 @@ pub fn tabled_stores(
     sized_stores(text, recall, side) & (screen.len() == h * w)
 }
 
-// Record and stores are a session.
-pub fn is_session(s: Session, text: &[u8], recall: &[u8], side: &[u8]) -> bool
+// Whether record and stores are a session. The newlines counted on the way are handed on.
+pub fn session_test(s: Session, text: &[u8], recall: &[u8], side: &[u8]) -> SessionTest
     requires { ⌜ sized quarter (stores (now text) (now recall) (now side)) ≡ true ⌝ }
-    ensures { λ ok. ⌜ ok ≡ isSession s (stores (now (text .entry)) (now (recall .entry)) (now (side .entry))) ⌝ }
+    ensures { λ t. ⌜ t ≡ sessionTest s (stores (now (text .entry)) (now (recall .entry)) (now (side .entry))) ⌝ }
 {
     let lengths = s.lengths;
     let frame = s.frame;
     if !editor_ok(lengths, text, recall, side) {
-        return false;
+        return SessionTest::Failed;
     }
-    is_visible(frame, cursor(lengths, text, side))
+    let above = newlines_left(lengths, text);
+    if !is_visible(frame, cursor(above, lengths, text, side)) {
+        return SessionTest::Failed;
+    }
+    SessionTest::Passed(above)
 }
 
 // ---- Answers
@@ -185,14 +192,22 @@ pub fn open(
 // ---- A key
 
 // An accepted key: the offsets follow the cursor, the screen becomes the window, and the changed rows are named.
-fn show(f: Frame, done: EditorReply, text: &[u8], side: &[u8], screen: &mut [u8]) -> Reply
+fn show(
+    f: Frame,
+    above: usize,
+    done: EditorReply,
+    text: &[u8],
+    side: &[u8],
+    screen: &mut [u8],
+) -> Reply
     requires { ⌜ Texts (done .lengths) (now text) (now side) ⌝ }
+    requires { ⌜ above ≡ newlinesLeft (done .lengths .main .l) (now text) ⌝ }
     requires { ⌜ (rowsAndColumns (f .h) (f .w) ≡ true) × (length (now screen) ≡ f .h * f .w) ⌝ }
     ensures { λ r. ⌜ Shows r f done (now (text .entry)) (now (side .entry)) (now (screen .entry)) (now (screen .exit)) ⌝ }
 {
     let lengths = done.lengths;
     let report = done.report;
-    let spot = cursor(lengths, text, side);
+    let spot = cursor(above, lengths, text, side);
     let g = follow(f, spot);
     let rows = refresh(lengths, g, text, side, screen);
     Reply {
@@ -231,13 +246,14 @@ pub fn press(
     if !tabled_stores(h, w, text, recall, side, screen) {
         return turned_down(SIZE, s);
     }
-    if !is_session(s, text, recall, side) {
+    let SessionTest::Passed(above) = session_test(s, text, recall, side) else {
         return turned_down(SESSION, s);
-    }
+    };
     let done = press_session(lengths, k, text, recall, side);
     let code = done.code;
     if 0 < code {
         return turned_down(code, s);
     }
-    show(frame, done, text, side, screen)
+    let below = newlines_after(above, lengths.main, done, text);
+    show(frame, below, done, text, side, screen)
 }

@@ -2,18 +2,54 @@
 // known to be small.
 use crate::Frame;
 use crate::Spot;
+use editor::EditorReply;
 use editor::Lengths;
 use editor::Mode;
+use editor::Sizes;
 use gap::lines::count_newlines;
 use gap::lines::since_newline;
 ghost use mathlib.Core.Path.{_≡_};
 ghost use Prim.Native.Nat.{_≤_};
+ghost use lib.ListN.{length};
 ghost use Rattle.window.specs.Rules.Window.{policyRow, policyColumn};
-ghost use Rattle.window.specs.Wording.Calls.{spotIn, visibleAt, policyAt, Texts, virtualHeld};
+ghost use Rattle.window.specs.Wording.Calls.{newlinesLeft, LeftCounted, spotIn, visibleAt, policyAt, Texts, virtualHeld};
+
+// The newlines left of the document's cursor.
+pub fn newlines_left(n: Lengths, text: &[u8]) -> usize
+    requires { ⌜ n .main .l ≤ length (now text) ⌝ }
+    ensures { λ above. ⌜ above ≡ newlinesLeft (n .main .l) (now (text .entry)) ⌝ }
+{
+    let main = n.main;
+    let l = main.l;
+    count_newlines(&text[..l])
+}
+
+// The same after a key: with the lines that it reports, or without them. Where it reports none they are counted in what the text left of the
+// cursor has gained.
+pub fn newlines_after(above: usize, was: Sizes, done: EditorReply, text: &[u8]) -> usize
+    requires { ⌜ done .lengths .main .l ≤ length (now text) ⌝ }
+    requires { ⌜ LeftCounted above (was .l) (done .lengths .main .l) (done .report .lines) (now text) ⌝ }
+    ensures { λ below. ⌜ below ≡ newlinesLeft (done .lengths .main .l) (now (text .entry)) ⌝ }
+{
+    let report = done.report;
+    let lengths = done.lengths;
+    let main = lengths.main;
+    let l = was.l;
+    let m = main.l;
+    let lines = report.lines;
+    if m < l {
+        return above - lines;
+    }
+    if (l < m) & (0 < lines) {
+        return above + lines;
+    }
+    above + count_newlines(&text[l..m])
+}
 
 // Row from 1 and column from 0, over the texts left of the cursor only.
-pub fn cursor(n: Lengths, text: &[u8], side: &[u8]) -> Spot
+pub fn cursor(above: usize, n: Lengths, text: &[u8], side: &[u8]) -> Spot
     requires { ⌜ Texts n (now text) (now side) ⌝ }
+    requires { ⌜ above ≡ newlinesLeft (n .main .l) (now text) ⌝ }
     ensures { λ s. ⌜ s ≡ spotIn (virtualHeld n (now (text .entry)) (now (side .entry))) ⌝ }
 {
     let main = n.main;
@@ -21,7 +57,6 @@ pub fn cursor(n: Lengths, text: &[u8], side: &[u8]) -> Spot
     let mode = n.mode;
     let l = main.l;
     let q = quoted.l;
-    let above = count_newlines(&text[..l]);
     match mode {
         Mode::Main => Spot {
             row: above + 1,

@@ -1,6 +1,6 @@
 //! Keys on the document and the quotation, without a screen.
 
-use super::bytes::allowed;
+use super::bytes::{allowed, newlines};
 use super::places::{distance_left, distance_right, find_left, find_right, Direction, Place};
 use super::texts::Side;
 use crate::chidukwore::{self, Record};
@@ -31,11 +31,12 @@ pub enum Key {
 #[derive(Default)]
 pub struct Went {
     pub steps: usize,
+    pub lines: usize,
     pub bell: bool,
 }
 
 /// What a key reports that found no place or match.
-const RANG: Went = Went { steps: 0, bell: true };
+const RANG: Went = Went { steps: 0, lines: 0, bell: true };
 
 /// The finished text would not fit its store.
 pub struct Full;
@@ -130,18 +131,25 @@ fn function(side: &mut Side, action: Action, way: Direction, place: Place) -> We
         Direction::Right => distance_right(place, side.right()),
     };
     let Some(d) = distance else {
-        if let Action::Delete = action {
-            side.forget(0);
-        }
         return RANG;
     };
+    let lines = lines_passed(side, way, d);
     match (action, way) {
         (Action::Move, Direction::Left) => side.move_left(d),
         (Action::Move, Direction::Right) => side.move_right(d),
         (Action::Delete, Direction::Left) => side.delete_left(d),
         (Action::Delete, Direction::Right) => side.delete_right(d),
     }
-    Went { steps: d, bell: false }
+    Went { steps: d, lines, bell: false }
+}
+
+/// The newlines among the d bytes that a move would cross.
+fn lines_passed(side: &Side, way: Direction, d: usize) -> usize {
+    let passed = match way {
+        Direction::Left => &side.left()[side.left().len() - d..],
+        Direction::Right => &side.right()[..d],
+    };
+    newlines(passed)
 }
 
 fn search(document: &mut Side, way: Direction, pattern: &[u8]) -> Went {
@@ -152,11 +160,12 @@ fn search(document: &mut Side, way: Direction, pattern: &[u8]) -> Went {
     let Some(d) = distance else {
         return RANG;
     };
+    let lines = lines_passed(document, way, d);
     match way {
         Direction::Left => document.move_left(d),
         Direction::Right => document.move_right(d),
     }
-    Went { steps: d, bell: false }
+    Went { steps: d, lines, bell: false }
 }
 
 /// The quotation becomes all that the quarter at `at` holds, and is cleared with its recall text; the mode becomes MAIN.

@@ -40,7 +40,7 @@ pub fn key(record: Record, key: Key, text: &mut [u8], recall: &mut [u8], side: &
     follow(&mut now, &spot);
     let (first, last) = paint(&now, &spot, text, side, screen);
     let (row, column) = (spot.row - now.top, spot.column - now.left);
-    Reply { answer: Answer { code: 0, place: 0, steps: went.steps, bell: went.bell.into(), first, last, row, column }, record: now }
+    Reply { answer: Answer { code: 0, place: 0, steps: went.steps, lines: went.lines, bell: went.bell.into(), first, last, row, column }, record: now }
 }
 
 fn sized(record: &Record, text: &[u8], recall: &[u8], side: &[u8], screen: &[u8]) -> bool {

@@ -15,7 +15,8 @@ use Rattle.gap.specs.declared.Search.the-variants.{Reached, Nowhere}
 use Rattle.gap.specs.Rules.Doc.{Doc, content, room, move, delete, times, splice}
 use Rattle.gap.specs.Rules.Nearest.{nearest, distance, LeastMoves}
 use Rattle.gap.specs.Rules.Lines.{newline, since, sinceAfter}
-use Rattle.gap.proofs.Laws.Doc.{opposite, times-add, room-moves, room-behind, content-moves, moves-back, deletions-behind, deletions-left, deletions-right}
+use Rattle.gap.proofs.Laws.Doc.{opposite, times-add, room-moves, room-behind, content-moves, moves-back}
+use Rattle.gap.proofs.Laws.Doc.{deletions-behind, deletions-left, deletions-right}
 use Rattle.gap.proofs.Theorems.Distance.{distance-least}
 
 -- 001's `to`: as many single actions as the distance is. Where no such place is reachable, the document stays.

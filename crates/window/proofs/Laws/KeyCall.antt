@@ -1,27 +1,31 @@
 -- The key call: what its tests tell, what a refusal leaves, and that the editor's outcome shown through the window is `keyed`.
-use mathlib.Core.Path.{_≡_, refl, sym, ap, ap₂, _∙_}
+use mathlib.Core.Path.{_≡_, refl, sym, ap, ap₂, subst, transport, _∙_}
 use mathlib.Core.Logic.{⊎-elim}
-use mathlib.Core.Bool.{Bool, true, false, _&&_}
+use mathlib.Core.Bool.{Bool, true, false, _&&_, cond}
 use mathlib.Core.List.{List}
 use Prim.Native.Nat.{ℕ, _+_, _-_, _*_, _≤_, _<_}
 use native.Mathlib.Nat.{le-trans, mul-le-mul-left, mul-le-mul-right}
 use native.Mathlib.Omega.{arith}
 use lib.Dec.{eqb, leb}
-use lib.ListN.{length, length-append, length-take}
+use lib.ListN.{length, take, drop, length-append, length-take}
+use lib.Seq.{length-take-le, take-add, take-append-seam, take-take}
 use borrow.Author.Tests.{leb-true, eq-eqb}
 use Rattle.gap.specs.Rules.Doc.{Doc}
-use Rattle.gap.specs.Rules.Layout.{ungap}
+use Rattle.gap.specs.Rules.Lines.{newlines}
+use Rattle.gap.specs.Rules.Layout.{gapped, ungap}
 use Rattle.gap.proofs.Laws.Tests.{and-left, and-right, and-both, cond-true, cond-false}
 use Rattle.gap.proofs.Laws.Layout.{length-gapped}
 use Rattle.editor.specs.declared.EditorReply.{EditorReply}
 use Rattle.editor.specs.Rules.Refusals.{SIZE, SESSION}
 use Rattle.editor.specs.Rules.Plain.{Plain, Did, Outcome, refused, done}
-use Rattle.gap.proofs.Laws.Lines.{newlines-fit, since-fits}
+use Rattle.gap.proofs.Laws.Lines.{newlines-append, newlines-fit, since-fits}
 use Rattle.editor.specs.Rules.Keys.{key}
 use Rattle.editor.specs.Rules.Bytes.{Stores, quarter, quarterOf, sized, plainOf, lengthsOf, storesOf, editorOk, editedTo}
 use Rattle.editor.specs.Wording.Promise.{Sound, stores}
 use Rattle.editor.proofs.Laws.Fitting.{fitting}
 use Rattle.window.specs.Words.{Lengths, Frame, Session, Key, Mode, Main, Quoted, Report}
+use Rattle.window.specs.declared.SessionTest.{SessionTest}
+use Rattle.window.specs.declared.SessionTest.the-variants.{Passed, Failed}
 use Rattle.window.specs.declared.Spot.{Spot}
 use Rattle.window.specs.declared.Rows.{Rows}
 use Rattle.window.specs.declared.Reply.{Reply}
@@ -29,12 +33,14 @@ use Rattle.window.specs.Rules.Window.{virtual, virtualIn, rowOf, columnO
 use Rattle.window.specs.Rules.Core.{Lent, Called, T, rowsAndColumns, tabled, isSession, shown, finished, keyed, held, lentOf}
 use Rattle.window.specs.Rules.Rows.{firstRow, lastRow}
 use Rattle.window.specs.Wording.Painter.{Canvas}
-use Rattle.window.specs.Wording.Calls.{spotIn, visibleAt, policyAt, Texts, virtualHeld, Refreshed, lent, called, turnedDownReply, reported}
+use Rattle.window.specs.Wording.Calls.{newlinesLeft, LeftCounted, sessionTest, spotIn, visibleAt, policyAt, Texts, virtualHeld}
+use Rattle.window.specs.Wording.Calls.{Refreshed, lent, called, turnedDownReply, reported}
 use Rattle.window.proofs.Laws.Window.{policy-visible, Visible, visible-says}
 use Rattle.window.proofs.Laws.Views.{tabled-facts, session-view, session-keyed}
 use Rattle.editor.proofs.Laws.Encoding.{plain-of-encoded, session-encoded, encoded-sized, encoded-ok}
 use Rattle.editor.proofs.Laws.Keeps.{key-keeps}
-use Rattle.editor.proofs.Laws.Outcomes.{refusal-number}
+use Rattle.editor.proofs.Laws.Outcomes.{refusal-number, accepted}
+use Rattle.editor.proofs.Theorems.LeftTexts.{LeftKept, left-kept}
 
 -- ---- Tests
 
@@ -62,6 +68,29 @@ pub session-so : (s : Session) (b : Stores) → editorOk quarter (s .lengths) b 
 unfolding isSession visible plainOf
 session-so s b ok spot here seen e =
     e ∙ (ap (visibleAt (s .frame)) here ∙ sym (ap (λ t. t && visible (s .frame) (virtual (held s b))) ok))
+
+-- What the session test finds, by these tests; and what it tells.
+module _ (s : Session) (b : Stores) where
+  pub test-failed : isSession s b ≡ false → Failed ≡ sessionTest s b
+  test-failed e = sym (cond-false _ _ e)
+
+  pub test-passed : isSession s b ≡ true → {above : ℕ} → above ≡ newlinesLeft (s .lengths .main .l) (b .text) → Passed above ≡ sessionTest s b
+  test-passed e counted = ap Passed counted ∙ sym (cond-true _ _ e)
+
+passed-so : (test : Bool) {x y : ℕ} → cond test (Passed x) Failed ≡ Passed y → (test ≡ true) × (x ≡ y)
+passed-so true e = (refl, cc)
+passed-so false e = (cc, cc)
+
+failed-so : (test : Bool) (x : ℕ) → cond test (Passed x) Failed ≡ Failed → test ≡ false
+failed-so true x e = cc
+failed-so false x e = refl
+
+module _ (s : Session) (b : Stores) {t : SessionTest} (e : t ≡ sessionTest s b) where
+  pub tested-session : {above : ℕ} → t ≡ Passed above → (isSession s b ≡ true) × (newlinesLeft (s .lengths .main .l) (b .text) ≡ above)
+  tested-session told = passed-so (isSession s b) (sym e ∙ told)
+
+  pub tested-none : t ≡ Failed → isSession s b ≡ false
+  tested-none told = failed-so (isSession s b) _ (sym e ∙ told)
 
 -- H times W is small.
 pub product-small : (h w : ℕ) → rowsAndColumns h w ≡ true → h * w ≤ 16384
@@ -169,6 +198,41 @@ module _ (f : Frame) (n : Lengths) (t s scr : List ℕ) (held : Texts n t s) (fr
         let screen = fresh .screen ∙ ap (λ q. window q d) followed in
         λ i. shownAs report (first i) (last i) (here i) (followed i) (sym (encoded .lengths) i) (screen i) (sym (encoded .stores) i)
 
+-- ---- The newlines left of the cursor
+
+pub counted-as : {a b l m lines : ℕ} {text : List ℕ} → a ≡ b → LeftCounted a l m lines text → LeftCounted b l m lines text
+counted-as {l = l} {m} {lines} {text} e counted = subst (λ above. LeftCounted above l m lines text) e counted
+
+-- Those of the first m bytes are those of the first l and of the run between.
+pub left-gained : (l m lines above between : ℕ) (text : List ℕ) → LeftCounted above l m lines text → l ≤ m
+    → between ≡ newlines (take (m - l) (drop l text)) → above + between ≡ newlinesLeft m text
+left-gained l m lines above between text counted more run =
+    let whole : m ≡ l + (m - l) = omega arith in
+    ap₂ (λ a b. a + b) (counted .grown more) run
+    ∙ sym (ap (λ k. newlines (take k text)) whole ∙ (ap newlines (take-add l (m - l) text) ∙ newlines-append (take l text) _))
+
+pub left-told : (l m lines above : ℕ) (text : List ℕ) → LeftCounted above l m lines text → l < m → 0 < lines → above + lines ≡ newlinesLeft m text
+left-told l m lines above text counted more some = sym (counted .gained more some)
+
+pub left-lost : (l m lines above : ℕ) (text : List ℕ) → LeftCounted above l m lines text → m < l → above - lines ≡ newlinesLeft m text
+left-lost l m lines above text counted fewer = omega (arith, counted .cut fewer)
+
+-- What a key leaves of the text left of the cursor, in the store that holds the document after it.
+counted-left : (l r size lines : ℕ) (text : List ℕ) (e : Doc) → l + r ≤ length text → LeftKept (ungap l r text) e lines
+    → LeftCounted (newlinesLeft l text) l (length (e .l)) lines (gapped size e)
+unfolding ungap gapped
+counted-left l r size lines text e fits kept =
+    let long : length (take l text) ≡ l = length-take-le l text (omega arith) in
+    let seam : take (length (e .l)) (gapped size e) ≡ e .l = take-append-seam (e .l) _ in
+    record {
+      grown = λ h.
+          let front = take-take l (length (e .l)) (gapped size e) h in
+          ap newlines
+          (sym (sym front ∙ (ap (take l) seam ∙ (ap (λ k. take k (e .l)) (sym long) ∙ kept .grown (omega (arith, long, h))))));
+      gained = λ h some. ap newlines seam ∙ kept .gained (omega (arith, long, h)) some;
+      cut = λ h. kept .cut (omega (arith, long, h)) ∙ ap (λ s. newlines s + lines) (sym seam);
+    }
+
 -- ---- The editor's outcome
 
 -- What the editor's reply and stores are, by the plain editor's outcome.
@@ -197,11 +261,13 @@ pub session-sound : (s : Session) (b : Lent) → tabled (s .frame .h) (s .frame 
 unfolding isSession
 session-sound s b fit ok = record { tabled = tabled-facts (s .frame .h) (s .frame .w) b fit .stores; ok = and-left _ _ ok }
 
--- What is known once the editor has done a key: record and stores are sound, the sizes are as before, and showing them is `keyed`.
+-- What is known once the editor has done a key: record and stores are sound, the sizes are as before, showing them is `keyed`, and the newlines
+-- left of the cursor follow from those before.
 pub record Accepted (s : Session) (k : Key) (b : Lent) (after : Stores) (r : EditorReply) : Type 0 where
   pub sound : Sound quarter (r .lengths) after
   pub fit : tabled (s .frame .h) (s .frame .w) (record { stores = after; screen = b .screen }) ≡ true
   pub shows : shown (s .frame) (record { stores = after; screen = b .screen }) (reported r after) ≡ keyed s k b
+  pub left : LeftCounted (newlinesLeft (s .lengths .main .l) (b .stores .text)) (s .lengths .main .l) (r .lengths .main .l) (r .report .lines) (after .text)
 
 module _ (s : Session) (k : Key) (b : Lent) (fit : tabled (s .frame .h) (s .frame .w) b ≡ true) (ok : isSession s (b .stores) ≡ true)
     (after : Stores) (r : EditorReply) where
@@ -223,7 +289,7 @@ module _ (s : Session) (k : Key) (b : Lent) (fit : tabled (s .frame .h) (s .fram
 
   done-so : (o : Outcome) → key (T (b .stores)) quarter k (held s (b .stores)) ≡ o
       → record { reply = r; stores = after } ≡ editedTo quarter (s .lengths) (b .stores) o → r .code ≤ 0 → Accepted s k b after r
-  unfolding tabled shown finished storesOf
+  unfolding tabled shown finished plainOf lengthsOf storesOf
   done-so (refused code) outcome e zero-code =
       let number = refusal-number (T (b .stores)) quarter k (held s (b .stores)) code outcome in
       let same = refused-reply (s .lengths) (b .stores) after r code e .0 in
@@ -237,6 +303,12 @@ module _ (s : Session) (k : Key) (b : Lent) (fit : tabled (s .frame .h) (s .fram
       let state = ap₂ (plainOf quarter) lengths same ∙ plain-of-encoded (T (b .stores)) quarter (did .state) kept in
       let long = ap T same ∙ length-gapped (T (b .stores)) (did .state .main .text) (kept .text .fits) in
       let o = shown (s .frame) (record { stores = after; screen = b .screen }) did in
+      let (sound-key, room, did-so) = accepted (T (b .stores)) quarter k (held s (b .stores)) did .0 outcome in
+      let p = held s (b .stores) in
+      let left-so = subst (λ d. LeftKept (p .main .text) (d .state .main .text) (d .report .lines)) did-so (left-kept k p) in
+      let n = s .lengths .main in
+      let document = fitting quarter (s .lengths) (b .stores) (session-sound s b fit ok) .document in
+      let counted = counted-left (n .l) (n .r) (T (b .stores)) (did .report .lines) (b .stores .text) (did .state .main .text) document left-so in
       record {
         sound = record { tabled = sized-so; ok = ok-so };
         fit = and-both sized-so (and-both (facts .frame) (eq-eqb _ _ (facts .long)));
@@ -244,6 +316,9 @@ module _ (s : Session) (k : Key) (b : Lent) (fit : tabled (s .frame .h) (s .fram
             ap (shown (s .frame) (record { stores = after; screen = b .screen })) (λ i. record { state = state i; report = report i })
             ∙ (ap (λ t. record { answer = o .answer; session = o .session; lent = lentOf t (did .state) (o .session .frame) }) long
             ∙ (ap (finished s b) (sym outcome) ∙ sym (session-keyed s k b fit ok)));
+        left =
+            transport
+            (λ i. LeftCounted (newlinesLeft (n .l) (b .stores .text)) (n .l) (sym lengths i .main .l) (sym report i .lines) (sym same i .text)) counted;
       }
 
   pub press-done : record { reply = r; stores = after } ≡ editedTo quarter (s .lengths) (b .stores) (key (T (b .stores)) quarter k (held s (b .stores)))

@@ -1,21 +1,39 @@
 -- How the promises of this layer's functions speak: spots, texts as they are lent, and the outcome of a call as one value.
 use mathlib.Core.Path.{_≡_}
-use Prim.Native.Nat.{_≤_}
-use Rattle.window.specs.Words.{List, Bool, _&&_, ℕ, _+_, _*_, true, leb, ltb, length, Lengths, Frame, Session}
+use Prim.Native.Nat.{_≤_, _<_}
+use Rattle.window.specs.Words.{List, Bool, _&&_, cond, ℕ, _+_, _*_, true, leb, ltb, length, take, Lengths, Frame, Session}
 use Rattle.gap.specs.Rules.Doc.{Doc}
+use Rattle.gap.specs.Rules.Lines.{newlines}
 use Rattle.gap.specs.Rules.Layout.{ungap}
 use Rattle.editor.specs.declared.EditorReply.{EditorReply}
 use Rattle.editor.specs.Rules.Plain.{Plain, Did}
 use Rattle.editor.specs.Rules.Bytes.{Stores, quarter, quarterOf, plainOf}
 use Rattle.editor.specs.Wording.Promise.{Sound, stores}
+use Rattle.window.specs.declared.SessionTest.{SessionTest}
+use Rattle.window.specs.declared.SessionTest.the-variants.{Passed, Failed}
 use Rattle.window.specs.declared.Spot.{Spot}
 use Rattle.window.specs.declared.Rows.{Rows}
 use Rattle.window.specs.declared.Reply.{Reply}
 use Rattle.window.specs.Rules.Window.{virtualIn, rowOf, columnOf, window, policyRow, policyColumn}
 use Rattle.window.specs.Rules.Rows.{firstRow, lastRow}
-use Rattle.window.specs.Rules.Core.{Lent, Called, tabled, refusal, zeroRecord, shown}
+use Rattle.window.specs.Rules.Core.{Lent, Called, tabled, isSession, refusal, zeroRecord, shown}
 
 -- ---- Cursor
+
+-- The newlines of a store's first l bytes: those left of the document's cursor.
+abbrev pub newlinesLeft : ℕ → List ℕ → ℕ
+newlinesLeft l text = newlines (take l text)
+
+-- A key has made l bytes left of the cursor to m: where these are no fewer, the l bytes still have the newlines counted in them before; where they
+-- are more or fewer, lines that it reports are the newlines that came or went.
+pub record LeftCounted (above l m lines : ℕ) (text : List ℕ) : Type 0 where
+  pub grown : l ≤ m → above ≡ newlinesLeft l text
+  pub gained : l < m → 1 ≤ lines → newlinesLeft m text ≡ above + lines
+  pub cut : m < l → above ≡ newlinesLeft m text + lines
+
+-- What the session test finds.
+abbrev pub sessionTest : Session → Stores → SessionTest
+sessionTest s b = cond (isSession s b) (Passed (newlinesLeft (s .lengths .main .l) (b .text))) Failed
 
 -- Where the cursor of a document stands.
 abbrev pub spotIn : Doc → Spot

@@ -1,13 +1,15 @@
 -- `press` is the key call: SIZE, SESSION, a refusal of the editor's, or its outcome shown.
 use mathlib.Core.Path.{_≡_, sym, _∙_}
 use mathlib.Core.Bool.{true}
+use native.Mathlib.Omega.{arith}
 use borrow.Author.Tests.{not-true, not-false}
 use borrow.Author.Needs.{needs}
 use Rattle.editor.specs.Rules.Bytes.{quarter}
 use Rattle.editor.specs.Wording.Promise.{Sound, stores}
 use Rattle.window.specs.Rules.Core.{Lent, tabled, isSession}
-use Rattle.window.specs.Wording.Calls.{lent}
+use Rattle.window.specs.Wording.Calls.{newlinesLeft, lent}
 use Rattle.window.proofs.Laws.KeyCall.{texts-held, refused-size, refused-session, Accepted, press-refused, press-done, session-sound}
+use Rattle.window.proofs.Laws.KeyCall.{tested-session, tested-none, counted-as}
 use Rattle.window.proofs.Laws.Views.{tabled-facts}
 use Rattle.window.proofs.calls.press.Statement.{statement}
 use Rattle.window.proofs.calls.press.Tie as tie
@@ -26,56 +28,68 @@ entry s = lent (s .args .text .now) (s .args .recall .now) (s .args .side .now) 
 fit : (c : tie.Else1) → tabled (start c .args .s .frame .h) (start c .args .s .frame .w) (entry (start c)) ≡ true
 fit c = sym (c .before .tabled-stores .ensures) ∙ not-false _ (c .if1 .left)
 
-ok : (c : tie.Else2) → let s = start (c .before .before .before .before .before) in isSession (s .args .s) (entry s .stores) ≡ true
-ok c = sym (c .before .is-session .ensures) ∙ not-false _ (c .if2 .left)
-
-is-session-requires : tie.Need-is-session-requires
-is-session-requires c κs = tabled-facts _ _ _ (fit (c .before .before .before)) .stores
+session-test-requires : tie.Need-session-test-requires
+session-test-requires c κs = tabled-facts _ _ _ (fit (c .before .before .before)) .stores
 
 returns-2 : tie.Need-returns-2
 returns-2 c =
-    refused-session _ _ _ (fit (c .before .before .before .before .before .before))
-    (sym (c .before .before .is-session .ensures) ∙ not-true _ (c .before .if2 .taken)) _ (c .turned-down2 .ensures)
+    let else1 : tie.Else1 = search in let asked : tie.After-session-test = search in let told : tie.After-enum-told = search in
+    refused-session _ _ _ (fit else1) (tested-none _ _ (asked .session-test .ensures) (told .enum-told .given .1)) _ (c .turned-down2 .ensures)
 
--- Where both tests have passed, record and stores are sound for the editor.
-sessions : (c : tie.Else2) → let s = start (c .before .before .before .before .before) in Sound quarter (s .args .s .lengths) (entry s .stores)
+-- What the session test has told: record and stores are a session, and how many newlines stand left of the cursor.
+abbrev started : tie.After-above → tie.Start
+started c = start (c .before .before .before .before .before .before)
+
+tested : (c : tie.After-above) → let s = started c in
+    (isSession (s .args .s) (entry s .stores) ≡ true) × (newlinesLeft (s .args .s .lengths .main .l) (entry s .stores .text) ≡ c .above .given .0 .0)
+tested c = let asked : tie.After-session-test = search in tested-session _ _ (asked .session-test .ensures) (c .above .given .1)
+
+-- Where it has passed, record and stores are sound for the editor.
+sessions : (c : tie.After-above) → let s = started c in Sound quarter (s .args .s .lengths) (entry s .stores)
 sessions c =
     let else1 : tie.Else1 = search in
     let s = start else1 in
-    session-sound (s .args .s) (entry s) (fit else1) (ok c)
+    session-sound (s .args .s) (entry s) (fit else1) (tested c .0)
 
 press-session-requires : tie.Need-press-session-requires
-press-session-requires c κs = sessions (c .before .before .before)
+press-session-requires c κs = let told : tie.After-above = search in sessions told
 
 returns-3 : tie.Need-returns-3
 returns-3 c =
-    let done : tie.After-press-session = search in let tested : tie.Else2 = search in let else1 : tie.Else1 = search in
+    let done : tie.After-press-session = search in let told : tie.After-above = search in let else1 : tie.Else1 = search in
     let s = start else1 in
-    press-refused (s .args .s) (s .args .k) (entry s) (fit else1) (ok tested) _ _ (done .press-session .ensures) (c .before .if3 .taken) _
+    press-refused (s .args .s) (s .args .k) (entry s) (fit else1) (tested told .0) _ _ (done .press-session .ensures) (c .before .if2 .taken) _
     (c .turned-down3 .ensures)
 
 -- The editor has done the key.
-accepted : (c : tie.Else3) → let done = c .before .before .before .before .before .before .before in
-    let s = start (done .before .before .before .before .before .before .before .before .before) in
+accepted : (c : tie.Else2) → let done = c .before .before .before .before .before .before .before in
+    let s = started (done .before .before .before .before .before) in
     Accepted (s .args .s) (s .args .k) (entry s)
     (stores (done .press-session .last .1 .1 .0) (done .press-session .last .1 .1 .1 .0) (done .press-session .last .1 .1 .1 .1 .0))
     (done .press-session .result)
 accepted c =
-    let done : tie.After-press-session = search in let tested : tie.Else2 = search in let else1 : tie.Else1 = search in
+    let done : tie.After-press-session = search in let told : tie.After-above = search in let else1 : tie.Else1 = search in
     let s = start else1 in
-    press-done (s .args .s) (s .args .k) (entry s) (fit else1) (ok tested) _ _ (done .press-session .ensures) (c .if3 .left)
+    press-done (s .args .s) (s .args .k) (entry s) (fit else1) (tested told .0) _ _ (done .press-session .ensures) (c .if2 .left)
+
+newlines-after-requires : tie.Need-newlines-after-requires
+newlines-after-requires c κs =
+    let passed : tie.Else2 = search in let told : tie.After-above = search in
+    let known = accepted passed in
+    let texts = texts-held _ _ _ _ (known .sound) in
+    (omega (arith, texts .document), counted-as (tested told .1) (known .left))
 
 show-requires : tie.Need-show-requires
 show-requires c κs =
-    let tested : tie.Else3 = search in
-    let known = accepted tested in
+    let passed : tie.Else2 = search in let counted : tie.After-newlines-after = search in
+    let known = accepted passed in
     let facts = tabled-facts _ _ _ (known .fit) in
-    (texts-held _ _ _ _ (known .sound), (facts .frame, facts .long))
+    (texts-held _ _ _ _ (known .sound), (counted .newlines-after .ensures, (facts .frame, facts .long)))
 
 returns-4 : tie.Need-returns-4
 returns-4 c =
-    let shown : tie.After-show = search in let tested : tie.Else3 = search in
-    let known = accepted tested in
+    let shown : tie.After-show = search in let passed : tie.Else2 = search in
+    let known = accepted passed in
     shown .show .ensures _ (known .sound) (known .fit) ∙ known .shows
 
 pub press-spec : {M : Type 1} → statement M
@@ -83,12 +97,14 @@ press-spec = tie.close (tie.spec
     (λ c κs. search needs)  -- tabled-stores-requires
     (λ c κs. search needs)  -- turned-down-requires
     (λ c. search needs) (λ c. search needs) (λ c. search needs) (λ c. search needs)  -- same-length .. same-length-4
-    returns is-session-requires
+    returns session-test-requires
+    (λ c. search needs)  -- enum-known-above
+    (λ c. search needs)  -- enum-told
     (λ c κs. search needs)  -- turned-down-requires-2
     (λ c. search needs) (λ c. search needs) (λ c. search needs) (λ c. search needs)  -- same-length-5 .. same-length-8
     returns-2 press-session-requires
     (λ c κs. search needs)  -- turned-down-requires-3
     (λ c. search needs) (λ c. search needs) (λ c. search needs) (λ c. search needs)  -- same-length-9 .. same-length-12
-    returns-3 show-requires
+    returns-3 newlines-after-requires show-requires
     (λ c. search needs) (λ c. search needs) (λ c. search needs) (λ c. search needs)  -- same-length-13 .. same-length-16
     returns-4)

@@ -14,7 +14,7 @@ follow-requires c κs =
 refresh-requires : tie.Need-refresh-requires
 refresh-requires c κs =
     let followed : tie.After-follow = search in let seen : tie.After-cursor = search in let start : tie.Start = search in
-    let (texts, (frame, long)) = start .pre in (
+    let (texts, (counted, (frame, long))) = start .pre in (
       texts,
       (
         shown-canvas _ _ _ _ (start .args .screen .now) texts frame long _ (seen .cursor .ensures) _ (followed .follow .ensures),
@@ -22,29 +22,29 @@ refresh-requires c κs =
       ),
     )
 
-sub-t13 : tie.Need-sub-t13
-sub-t13 c =
-    let followed : tie.After-follow = search in let seen : tie.After-cursor = search in let start : tie.Start = search in
-    let (texts, (frame, long)) = start .pre in
-    offset-row _ _ _ _ (start .args .screen .now) texts frame long _ (seen .cursor .ensures) _ (followed .follow .ensures)
-
 sub-t14 : tie.Need-sub-t14
 sub-t14 c =
     let followed : tie.After-follow = search in let seen : tie.After-cursor = search in let start : tie.Start = search in
-    let (texts, (frame, long)) = start .pre in
+    let (texts, (counted, (frame, long))) = start .pre in
+    offset-row _ _ _ _ (start .args .screen .now) texts frame long _ (seen .cursor .ensures) _ (followed .follow .ensures)
+
+sub-t15 : tie.Need-sub-t15
+sub-t15 c =
+    let followed : tie.After-follow = search in let seen : tie.After-cursor = search in let start : tie.Start = search in
+    let (texts, (counted, (frame, long))) = start .pre in
     offset-column _ _ _ _ (start .args .screen .now) texts frame long _ (seen .cursor .ensures) _ (followed .follow .ensures)
 
 returns : tie.Need-returns
 returns c =
     let painted : tie.After-refresh = search in let followed : tie.After-follow = search in
     let seen : tie.After-cursor = search in let start : tie.Start = search in
-    let (texts, (frame, long)) = start .pre in
+    let (texts, (counted, (frame, long))) = start .pre in
     λ recall sound fit.
     shows-so _ _ _ _ _ texts frame long _ (seen .cursor .ensures) _ (followed .follow .ensures) _ _ _ (painted .refresh .ensures) recall sound
 
 pub show-spec : {M : Type 1} → statement M
 show-spec = tie.close (tie.spec
     (λ c κs. search needs)  -- cursor-requires
-    follow-requires refresh-requires sub-t13 sub-t14
+    follow-requires refresh-requires sub-t14 sub-t15
     (λ c. search needs)  -- same-length
     returns)

@@ -7,51 +7,42 @@ use Rattle.window.proofs.Laws.Spots.{main-spot, quoted-spot}
 use Rattle.window.proofs.cursor.cursor.Statement.{statement}
 use Rattle.window.proofs.cursor.cursor.Tie as tie
 
-add-t14 : tie.Need-add-t14
-add-t14 c =
-    let counted = c .before .before in
-    let args = counted .before .before .before .before .before .before .args in
-    omega (arith, counted .count-newlines .ensures, front-newlines (args .n .main .l) (args .text .now))
+add-t12 : tie.Need-add-t12
+add-t12 c =
+    let start : tie.Start = search in
+    omega (arith, start .pre .1, front-newlines (start .args .n .main .l) (start .args .text .now))
 
-add-t21 : tie.Need-add-t21
-add-t21 c =
-    let counted = c .before .before .before .before in
-    let args = counted .before .before .before .before .before .before .args in
-    let above = front-newlines (args .n .main .l) (args .text .now) in
-    let within = front-newlines (args .n .quoted .l) (args .side .now) in
-    omega (arith, counted .count-newlines .ensures, c .count-newlines2 .ensures)
+add-t19 : tie.Need-add-t19
+add-t19 c =
+    let start : tie.Start = search in
+    let above = front-newlines (start .args .n .main .l) (start .args .text .now) in
+    let within = front-newlines (start .args .n .quoted .l) (start .args .side .now) in
+    omega (arith, start .pre .1, c .count-newlines .ensures)
 
-add-t20 : tie.Need-add-t20
-add-t20 c = omega (arith, add-t21 c)
+add-t18 : tie.Need-add-t18
+add-t18 c = omega (arith, add-t19 c)
 
 returns : tie.Need-returns
 returns c =
-    let counted = c .before .before .before .before in
-    let start = counted .before .before .before .before .before .before in
-    main-spot (start .args .n) (start .args .text .now) (start .args .side .now) (c .before .before .enum-told .given .1)
-    (counted .count-newlines .ensures) (c .since-newline .ensures)
+    let told : tie.After-enum-told = search in let start : tie.Start = search in
+    main-spot (start .args .n) (start .args .text .now) (start .args .side .now) (told .enum-told .given .1) (start .pre .1) (c .since-newline .ensures)
 
 returns-2 : tie.Need-returns-2
 returns-2 c =
-    let within = c .before .before in
-    let above = within .before .before .before .before in
-    let start = above .before .before .before .before .before .before in
-    quoted-spot (start .args .n) (start .args .text .now) (start .args .side .now) (omega arith)
-    (within .before .before .enum-told2 .given .1) (above .count-newlines .ensures)
-    (within .count-newlines2 .ensures) (c .since-newline2 .ensures)
+    let within : tie.After-count-newlines = search in let told : tie.After-enum-told2 = search in let start : tie.Start = search in
+    quoted-spot (start .args .n) (start .args .text .now) (start .args .side .now) (omega (arith, start .pre .0 .quotation))
+    (told .enum-told2 .given .1) (start .pre .1) (within .count-newlines .ensures) (c .since-newline2 .ensures)
 
 pub cursor-spec : {M : Type 1} → statement M
 cursor-spec = tie.close (tie.spec
-    (λ c. simp length-take (omega arith))  -- slice-aggregate-count-newlines
-    (λ c κs. search needs)  -- count-newlines-requires
     (λ c. search needs)  -- enum-told
-    add-t14
+    add-t12
     (λ c. simp length-take (omega arith))  -- slice-aggregate-since-newline
     (λ c κs. simp length-take (omega arith))  -- since-newline-requires
     (λ c. search needs)  -- enum-told-2
-    (λ c. simp length-take (omega arith))  -- slice-aggregate-count-newlines-2
-    (λ c κs. search needs)  -- count-newlines-requires-2
-    add-t20 add-t21
+    (λ c. simp length-take (omega arith))  -- slice-aggregate-count-newlines
+    (λ c κs. search needs)  -- count-newlines-requires
+    add-t18 add-t19
     (λ c. simp length-take (omega arith))  -- slice-aggregate-since-newline-2
     (λ c κs. simp length-take (omega arith))  -- since-newline-requires-2
     returns returns-2)

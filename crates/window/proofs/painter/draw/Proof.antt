@@ -22,7 +22,8 @@ same-length c = c .before .before .loop .inv .easel .long ∙ sym (c .before .be
 draw-run-requires : tie.Need-draw-run-requires Inv-loop μ-loop
 draw-run-requires c κs =
     let found = c .before .before in
-    run-asks (drawn-in-row (found .before .before .before .loop .inv) (found .before .if1 .left)) (ends-unbroken _ _ (found .before .before .before .loop .inv .within) (found .end-at .ensures))
+    let inv = found .before .before .before .loop .inv in
+    run-asks (drawn-in-row inv (found .before .if1 .left)) (ends-unbroken _ _ (inv .within) (found .end-at .ensures))
 
 same-length-2 : tie.Need-same-length-2 Inv-loop μ-loop
 same-length-2 c =
@@ -72,7 +73,8 @@ draw-spec = tie.close (tie.spec Inv-loop μ-loop
     (λ c. drawn-over (c .before .before .loop .inv) (c .if1 .taken))  -- returns
     (λ c κs. c .before .before .loop .inv .within)  -- end-at-requires
     (λ c. line-starts _ _ (c .end-at .ensures))  -- sub-draw-run
-    (λ c. omega (arith, line-starts _ _ (c .end-at .ensures), line-inside _ _ (c .end-at .ensures) (c .before .before .before .loop .inv .within)))  -- part-draw-run-start
+    (λ c. let inv = c .before .before .before .loop .inv in
+    omega (arith, line-starts _ _ (c .end-at .ensures), line-inside _ _ (c .end-at .ensures) (inv .within)))  -- part-draw-run-start
     (λ c. line-inside _ _ (c .end-at .ensures) (c .before .before .before .loop .inv .within))  -- part-draw-run-end
     draw-run-requires same-length-2 returns-2 end-row-requires
     (λ c. omega (arith, c .before .before .before .before .if2 .left))  -- add-i
