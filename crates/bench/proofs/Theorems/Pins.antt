@@ -1,20 +1,20 @@
 -- The definitions give each name, block and limit of document 01's bench program.
 use mathlib.Core.Path.{_≡_, refl}
-use mathlib.Core.List.{List, [], _++_, map}
+use mathlib.Core.List.{List, [], _∷_, _++_, map}
 use Prim.Native.Nat.{ℕ, _≤_, _<_}
 use lib.ListN.{length}
 use borrow.Author.Tests.{le-leb, lt-leb}
-use Rattle.gap.specs.Rules.Sequence.{every, sameBytes, begins}
+use Rattle.gap.specs.Rules.Sequence.{every, sameBytes, begins, part, patch, zeros}
 use Rattle.gap.specs.Rules.Strings.{bytes}
 use Rattle.gap.specs.Rules.Nearest.{nearest}
 use Rattle.gap.specs.Rules.Decimal.{valueAfter, isNumber, numberOf, digitsIn, decimal}
 use Rattle.gap.specs.Rules.Fields.{entry}
 use Rattle.gap.specs.Tables.Sentence.{allOf, broken, itself}
-use Rattle.bench.specs.Words.{Header, Headed, Broken, Named, Unnamed}
-use Rattle.bench.specs.Rules.Names.{nameOf, combinations, functionOf, functionNamed, keyNamed}
+use Rattle.bench.specs.Words.{Right, Move, LineEnding, Header, Headed, Broken, Named, Unnamed}
+use Rattle.bench.specs.Rules.Names.{nameOf, combinations, functionOf, entryOf, functionNamed, keyNamed}
 use Rattle.bench.specs.Rules.Script.{headingOf}
 use Rattle.bench.specs.Rules.Print.{rowsOf, acceptedBlock, refusedBlock, block, scriptLine}
-use Rattle.bench.specs.Rules.Run.{unlessLarge, beginning}
+use Rattle.bench.specs.Rules.Run.{unlessLarge, beginning, laidOut, fresh}
 use Rattle.bench.specs.Tables.KeyNames.{functionNames, otherNames, noNames}
 use Rattle.bench.specs.Tables.Blocks.{blockPins}
 
@@ -32,6 +32,12 @@ pub combinations-pinned : (map functionOf combinations ≡ map (λ n. n .key) fu
 unfolding bytes combinations
 combinations-pinned = (refl, refl)
 
+-- A row of that table: the host's numbers, 19 letters, and zeros behind them.
+pub entry-pinned : entryOf (record { action = Move; direction = Right; place = LineEnding })
+    ≡ record { action = 0; direction = 1; place = 3; length = 19; name = bytes "move-right-line-end" ++ (0 ∷ 0 ∷ 0 ∷ 0 ∷ 0 ∷ []) }
+unfolding zeros bytes
+entry-pinned = refl
+
 -- 01, the bench program: blocks.
 pub blocks-pinned : broken itself blockPins ≡ []
 unfolding sameBytes bytes digitsIn decimal entry rowsOf acceptedBlock refusedBlock block scriptLine allOf broken
@@ -45,3 +51,11 @@ input-limit input = (λ short. rw (le-leb (length input) 8192 short), λ long. r
 
 pub store-limit : (h : Header) → (h .store ≤ 4096 → unlessLarge (Headed h) ≡ Headed h) × (4096 < h .store → unlessLarge (Headed h) ≡ Broken 0)
 store-limit h = (λ small. rw (le-leb (h .store) 4096 small), λ large. rw (lt-leb (h .store) 4096 large))
+
+-- 01, the bench program: n raw bytes. They alone go into the store, as many of them as it has.
+abbrev laid : ℕ → ℕ → List ℕ
+laid T n = let h : Header = record { rows = 1; columns = 1; store = T; length = n; at = 1 } in laidOut h (bytes "-abcd") (fresh h) .stores .text
+
+pub text-laid-out : (laid 4 2 ≡ 97 ∷ 98 ∷ 0 ∷ 0 ∷ []) × (laid 2 4 ≡ 97 ∷ 98 ∷ [])
+unfolding part patch zeros bytes fresh
+text-laid-out = (refl, refl)

@@ -56,6 +56,8 @@ samples =
     -- A8: an empty line is no key line, the last one too; the end of the input is none.
     ∷ onDeck "\nkey=quote\n" "script=7\n"
     ∷ onDeck "key=insert-9\n\n" "code=5\nplace=0\nscript=8\n"
+    -- A key line begins with `key=`, whatever names a key behind it.
+    ∷ onDeck "kez=quote\n" "script=7\n"
     -- The last key line may lack its newline.
     ∷ onDeck "key=insert-200" "code=5\nplace=0\n"
     -- A9: an insert's number.

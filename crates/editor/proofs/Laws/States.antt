@@ -31,6 +31,12 @@ pub side-with : (mode : Mode) (s : Side) (p : Plain) → sideOf mode (withSide m
 side-with Main s p = refl
 side-with Quoted s p = refl
 
+-- A search is in the document: a quotation that becomes the pattern leaves it as it is.
+pub same-document : (mode : Mode) (p : Plain) → withPattern mode p .main ≡ p .main
+unfolding withPattern
+same-document Main p = refl
+same-document Quoted p = refl
+
 -- Both sides of a sound state are sound.
 pub side-sound : (T Q : ℕ) (mode : Mode) (p : Plain) → SoundPlain T Q p → SoundSide (limit T Q mode) (sideOf mode p)
 side-sound T Q Main p sound = record { text = sound .text; recall = sound .recall; half = sound .half }

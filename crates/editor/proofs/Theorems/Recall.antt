@@ -26,7 +26,7 @@ use Rattle.editor.specs.Rules.Keys.{pressed, fits, bounded, key, after, 
 use Rattle.editor.specs.Rules.Bytes.{SoundPlain}
 use Rattle.editor.specs.Wording.Recalling.{withRecall, recallPutIn}
 use Rattle.editor.proofs.Laws.Outcomes.{accepted}
-use Rattle.editor.proofs.Laws.States.{side-with, on-side-twice, sound-fits}
+use Rattle.editor.proofs.Laws.States.{side-with, same-document, on-side-twice, sound-fits}
 use Rattle.editor.proofs.Theorems.Refusals.{key-unsound, refused-full, done-otherwise}
 use Rattle.editor.proofs.Theorems.Sessions.{opening-sound, keys-keep}
 
@@ -177,11 +177,6 @@ move-keeps T Q way place p did e =
     let (ok, room, same) = accepted T Q (Function Move way place) p did .0 e in
     let s = sideOf (p .mode) p in
     rw (← same, side-with (p .mode) (function Move way place s .state) p) (moved-keeps way (passageTo way (isAt place way) (s .text)) s)
-
-same-document : (mode : Mode) (p : Plain) → withPattern mode p .main ≡ p .main
-unfolding withPattern
-same-document Main p = refl
-same-document Quoted p = refl
 
 -- Searches keep that of the document.
 pub find-keeps : (T Q : ℕ) (way : Direction) (p : Plain) (did : Did Plain) → key T Q (Find way) p ≡ done did

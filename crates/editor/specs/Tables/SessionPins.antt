@@ -6,11 +6,12 @@ use Rattle.editor.specs.Words.{Move, Right, Character, Insert, Function,
 use Rattle.gap.specs.Rules.Sequence.{sameBytes, zeros}
 use Rattle.gap.specs.Rules.Strings.{bytes}
 use Rattle.gap.specs.Rules.Doc.{content}
+use Rattle.gap.specs.Rules.Layout.{paired}
 use Rattle.gap.specs.Tables.Sentence.{Sentence, sentence}
 use Rattle.gap.specs.Tables.Written.{marked, stored, isBytes, isStore, isDoc}
 use Rattle.editor.specs.Rules.Plain.{Plain, opening}
 use Rattle.editor.specs.Rules.Keys.{fits, keys}
-use Rattle.editor.specs.Rules.Bytes.{Stores, quarter, sized, quarterOf, plainOf, lengthsOf, storesOf, editorOk}
+use Rattle.editor.specs.Rules.Bytes.{Stores, quarter, sized, quarterOf, alone, plainOf, lengthsOf, storesOf, editorOk}
 use Rattle.editor.specs.Tables.KeyExamples.{sameMode}
 
 -- A plain state whose texts all have other lengths, and its stores.
@@ -61,6 +62,8 @@ layoutPins =
     ∷ isStore (quarterOf 4 2 (fullStores .side)) "jkl_"
     ∷ isStore (quarterOf 4 3 (fullStores .side)) "mnop"
     ∷ [])
+    ∷ sentence "the pattern holds its text and then zeros: a pair without a right half"
+    (isDoc (alone (bytes "jkl")) "jkl|" ∷ isStore (paired 4 (alone (bytes "jkl"))) "jkl_" ∷ [])
     ∷ sentence "the record holds the lengths of all of them, and the mode" (areLengths (lengthsOf full) fullLengths ∷ [])
     ∷ sentence "record and stores are read back"
     (isDoc (plainOf 4 fullLengths fullStores .main .text) "ab|c"

@@ -34,12 +34,7 @@ pub mode-with : (mode : Mode) (side : Side) (p : Plain) → withSide mode side p
 mode-with Main side p = refl
 mode-with Quoted side p = refl
 
--- A search is in the document, for the pattern that the mode says.
-pub same-document : (mode : Mode) (p : Plain) → withPattern mode p .main ≡ p .main
-unfolding withPattern
-same-document Main p = refl
-same-document Quoted p = refl
-
+-- A search is for the pattern that the mode says.
 pub sought : (mode : Mode) (p : Plain) → withPattern mode p .pattern ≡ patternIn mode p
 unfolding withPattern
 sought Main p = refl

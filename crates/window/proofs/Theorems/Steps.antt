@@ -12,7 +12,7 @@ use Rattle.editor.specs.Rules.Plain.{Plain, quiet, rang, refused}
 use Rattle.editor.specs.Rules.Keys.{soundKey, inserted, function, recalled, sideOf, onSide, quoted, withPattern, matches, searched, found}
 use Rattle.editor.specs.Rules.Keys.{replaced, pressed, key, after, Unsound}
 use Rattle.editor.specs.Rules.Bytes.{quarter, SoundPlain}
-use Rattle.editor.proofs.Laws.States.{side-with}
+use Rattle.editor.proofs.Laws.States.{side-with, same-document}
 use Rattle.editor.proofs.Theorems.LinesCrossed.{lines-within}
 use Rattle.editor.proofs.Theorems.Refusals.{key-unsound, refused-full, function-never-full, find-never-full}
 use Rattle.window.specs.Words.{Direction, Action, Move, Place, Main, Session, Key, Insert, Function, Recall, Quote, Find, Replace}
@@ -20,7 +20,7 @@ use Rattle.window.specs.Rules.Window.{rowOf, virtual}
 use Rattle.window.specs.Rules.Core.{Lent, T, held, shown, finished, keyed}
 use Rattle.window.specs.Wording.Demands.{OnSession, StepsTo, textIn, patternIn, singly, Crosses, RowsApart}
 use Rattle.window.proofs.Laws.Views.{session-view}
-use Rattle.window.proofs.Laws.Reports.{side-text, same-document, sought, replaced-told, told, carried-told, told-steps, carried-text}
+use Rattle.window.proofs.Laws.Reports.{side-text, sought, replaced-told, told, carried-told, told-steps, carried-text}
 use Rattle.window.proofs.Laws.Reports.{mode-with, pattern-mode, reported-lines, steps-cross, steps-apart, main-row, main-text}
 use Rattle.window.proofs.Theorems.Sessions.{key-follows}
 use Rattle.window.proofs.Theorems.KeyDoes.{key-plain, key-outcome, keyed-does}

@@ -2,11 +2,11 @@
 -- proofs/Theorems/SendSamples shows that the definitions give each of them.
 use Prim.Native.String.{String}
 use lib.ListN.{replicate}
-use Rattle.window.specs.Words.{List, [], _∷_, _++_, map, Bool, true, false, _&&_, cond, ℕ, _-_, _*_, eqb, length, take}
+use Rattle.window.specs.Words.{List, [], _∷_, _++_, map, Bool, true, false, not, _&&_, _||_, cond, ℕ, _-_, _*_, eqb, length, take}
 use Rattle.gap.specs.Rules.Sequence.{sameBytes}
 use Rattle.gap.specs.Rules.Strings.{bytes}
 use Rattle.window.specs.Rules.Sending.{SendOutcome, sending}
-use Rattle.window.specs.Rules.Machine.{Reading, cells, escape, rowNumber, columnNumber, lost, Machine, feed}
+use Rattle.window.specs.Rules.Machine.{Reading, cells, escape, rowNumber, columnNumber, lost, Machine, machine, feed}
 
 -- Bytes as they are written here: `^` (94) is ESC, and `$` (36) is a newline.
 abbrev pub written : String → List ℕ
@@ -106,10 +106,13 @@ sendSamples =
     ∷ small 1 2 1 4 "abcdef" 99 (Refuses 1 0)
     ∷ small 1 2 1 0 "abcde" 99 (Refuses 1 0)
     ∷ small 1 2 1 0 "abcdefg" 99 (Refuses 1 0)
+    -- SIZE: H or W is not as tabled.
     ∷ record { H = 0; W = 3; first = 0; last = 0; row = 1; column = 0; screen = ""; room = 99; expected = Refuses 1 0 }
+    ∷ record { H = 2; W = 0; first = 0; last = 0; row = 1; column = 0; screen = ""; room = 99; expected = Refuses 1 0 }
     -- TEXT, also where the row is not named: the first such byte. SIZE comes before it, ROOM behind it.
     ∷ small 1 2 1 0 "ab$^ef" 99 (Refuses 3 2)
     ∷ small 1 1 1 0 "abcde^" 99 (Refuses 3 5)
+    ∷ small 1 2 1 0 "abc\u{7f}ef" 99 (Refuses 3 3)
     ∷ small 0 0 1 0 "$bcdef" 0 (Refuses 3 0)
     ∷ small 0 0 0 0 "$bcdef" 0 (Refuses 1 0)
     -- Numbers of two digits.
@@ -139,9 +142,11 @@ sendSamples =
 
 -- ---- The terminal
 
--- Bytes for a terminal of 2 rows and 3 columns that shows `abcdef` and is at its first cell: what it shows then, or that it is lost.
+-- Bytes for a terminal of 2 rows and 3 columns that shows `abcdef` and is at its first cell: what it shows then, what it shows in the
+-- middle of a sequence, or that it is lost.
 pub data Afterwards : Type 0 where
   Shows : Seen → Afterwards
+  Waits : Seen → Afterwards
   Loses : Afterwards
 
 pub record ReadSample : Type 0 where
@@ -153,6 +158,7 @@ read run after = record { run = run; after = after }
 
 abbrev pub isAfter : Afterwards → Machine → Bool
 isAfter (Shows s) m = isSeen s m
+isAfter (Waits s) m = not (ready (m .reading) || isLost (m .reading)) && isSeen s (machine (m .shows) (m .row) (m .column))
 isAfter Loses m = isLost (m .reading)
 
 unfoldable pub allRead : List ReadSample → Bool
@@ -167,12 +173,16 @@ readSamples =
     -- At the last column the spot stays: it neither wraps nor scrolls.
     ∷ read "wxyz" (Shows (seen "wxzdef" 1 3))
     ∷ read "^[2;3Hwx^[2;1Hy" (Shows (seen "abcyex" 2 2))
+    -- Until a sequence is at its end the spot stays.
+    ∷ read "xy^[2" (Waits (seen "xycdef" 1 3))
     -- A byte that is not printed, spots off the screen, a number that is left out or has a zero in front, other sequences.
     ∷ read "x$y" Loses
+    ∷ read "x\u{7f}" Loses
     ∷ read "^[3;1Hx" Loses
     ∷ read "^[1;4Hx" Loses
     ∷ read "^[0;1Hx" Loses
     ∷ read "^[2;Hx" Loses
+    ∷ read "^[;1Hx" Loses
     ∷ read "^[02;1Hx" Loses
     ∷ read "^[2;01Hx" Loses
     ∷ read "^[2Jx" Loses
