@@ -1,6 +1,9 @@
 pub mod Encoding
 pub mod Room
 pub mod Keeps
+pub mod Marks
+pub mod Followed
+pub mod Holding
 pub mod Quarters
 pub mod Session
 pub mod Outcomes

@@ -87,7 +87,7 @@ pub record Moderate (e : Exchange) (l : ℕ) (mark : Marking) : Type 0 where
   pub left : l ≤ 65536
   pub behind : e .behind ≤ 65536
   pub come : e .come ≤ 65536
-  pub mark : markWithin 65536 mark ≡ true
+  pub position : markWithin 65536 mark ≡ true
 
 pub record Followable (k : Key) (n : Lengths) (r : EditorReply) : Type 0 where
   pub recall : n .main .rl + n .main .rr ≤ 65536

@@ -1,11 +1,11 @@
--- `press_sound` does what the plain editor says where there is room, key by key. What a key is not lent stays as it is.
+-- `act` does what the plain editor says where there is room, key by key. What a key is not lent stays as it is.
 use borrow.Author.Needs.{needs}
 use mathlib.Core.Path.{refl}
-use Rattle.editor.specs.Rules.Keys.{pressed}
+use Rattle.editor.specs.Rules.Keys.{acted}
 use Rattle.editor.specs.Rules.Bytes.{quarter}
 use Rattle.editor.proofs.Laws.Fitting.{fitting, searchable}
-use Rattle.editor.proofs.keys.press_sound.Statement.{statement}
-use Rattle.editor.proofs.keys.press_sound.Tie as tie
+use Rattle.editor.proofs.keys.act.Statement.{statement}
+use Rattle.editor.proofs.keys.act.Tie as tie
 
 quote-key-requires : tie.Need-quote-key-requires
 quote-key-requires c κs =
@@ -18,43 +18,43 @@ find-key-requires c κs =
     searchable quarter _ _ (start .pre) refl
 
 returns : tie.Need-returns
-unfolding pressed
+unfolding acted
 returns c =
-    let done : tie.After-edit-key = search in let known : tie.After-k = search in
-    rw (known .k .given .1) (done .edit-key .ensures)
+    let done : tie.After-edit-key = search in let known : tie.After-k = search in let start : tie.Start = search in
+    rw (known .k .given .1) (done .edit-key .ensures _ (start .pre))
 
 returns-2 : tie.Need-returns-2
-unfolding pressed
+unfolding acted
 returns-2 c =
-    let done : tie.After-edit-key2 = search in let known : tie.After-k2 = search in
-    rw (known .k2 .given .1) (done .edit-key2 .ensures)
+    let done : tie.After-edit-key2 = search in let known : tie.After-k2 = search in let start : tie.Start = search in
+    rw (known .k2 .given .1) (done .edit-key2 .ensures _ (start .pre))
 
 returns-3 : tie.Need-returns-3
-unfolding pressed
+unfolding acted
 returns-3 c =
-    let done : tie.After-edit-key3 = search in let known : tie.After-enum-told = search in
-    rw (known .enum-told .given .1) (done .edit-key3 .ensures)
+    let done : tie.After-edit-key3 = search in let known : tie.After-enum-told = search in let start : tie.Start = search in
+    rw (known .enum-told .given .1) (done .edit-key3 .ensures _ (start .pre))
 
 returns-4 : tie.Need-returns-4
-unfolding pressed
+unfolding acted
 returns-4 c =
     let done : tie.After-quote-key = search in let known : tie.After-enum-told2 = search in let start : tie.Start = search in
-    rw (known .enum-told2 .given .1) (done .quote-key .ensures _ _ (start .pre))
+    rw (known .enum-told2 .given .1) (done .quote-key .ensures _ _ _ (start .pre))
 
 returns-5 : tie.Need-returns-5
-unfolding pressed
+unfolding acted
 returns-5 c =
     let done : tie.After-find-key = search in let known : tie.After-k3 = search in let start : tie.Start = search in
-    rw (known .k3 .given .1) (done .find-key .ensures _ (start .pre))
+    rw (known .k3 .given .1) (done .find-key .ensures _ _ (start .pre))
 
 returns-6 : tie.Need-returns-6
-unfolding pressed
+unfolding acted
 returns-6 c =
-    let done : tie.After-replace-key = search in let known : tie.After-enum-told3 = search in
-    rw (known .enum-told3 .given .1) (done .replace-key .ensures)
+    let done : tie.After-replace-key = search in let known : tie.After-enum-told3 = search in let start : tie.Start = search in
+    rw (known .enum-told3 .given .1) (done .replace-key .ensures _ (start .pre))
 
-pub press-sound-spec : {M : Type 1} → statement M
-press-sound-spec = tie.close (tie.spec
+pub act-spec : {M : Type 1} → statement M
+act-spec = tie.close (tie.spec
     (λ c. search needs)  -- enum-known-k
     (λ c κs. search needs)  -- edit-key-requires
     (λ c. search needs)  -- enum-known-k-2
