@@ -11,6 +11,7 @@ pub mod Sides
 pub mod SideEdits
 pub mod Passages
 pub mod States
+pub mod Marks
 pub mod MatchTests
 pub mod MatchScans
 pub mod Quotation
