@@ -1,9 +1,6 @@
 pub mod Encoding
 pub mod Room
 pub mod Keeps
-pub mod Marks
-pub mod Followed
-pub mod Holding
 pub mod Quarters
 pub mod Session
 pub mod Outcomes
@@ -12,6 +9,9 @@ pub mod SideEdits
 pub mod Passages
 pub mod States
 pub mod Marks
+pub mod Followed
+pub mod Following
+pub mod Holding
 pub mod MatchTests
 pub mod MatchScans
 pub mod Quotation

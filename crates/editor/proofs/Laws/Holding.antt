@@ -28,10 +28,12 @@ use Rattle.editor.proofs.Laws.Encoding.{session-encoded}
 use Rattle.editor.proofs.Laws.Fitting.{sizes}
 use Rattle.editor.proofs.Laws.States.{sound-fits, fits-marked, cut-sound}
 
--- The test of a mark behind the cursor, without a sum that could wrap.
-pub mark-beyond : (m l r : ℕ) → leb m l ≡ false → leb (m - l) r ≡ leb m (l + r)
-mark-beyond m l r e =
-    let over = leb-false m l e in
+-- The test of a mark, without a sum that could wrap.
+pub mark-before : (m l r : ℕ) → m ≤ l → true ≡ leb m (l + r)
+mark-before m l r h = sym (le-leb m (l + r) (omega (arith, h)))
+
+pub mark-beyond : (m l r : ℕ) → l < m → leb (m - l) r ≡ leb m (l + r)
+mark-beyond m l r over =
     ⊎-elim
     (λ t. let fit : m ≤ l + r = omega (arith, leb-true (m - l) r t) in t ∙ sym (le-leb m (l + r) fit))
     (λ t. let beyond : l + r < m = omega (arith, leb-false (m - l) r t) in t ∙ sym (lt-leb m (l + r) beyond))
@@ -152,7 +154,8 @@ module _ (Q : ℕ) (n : Lengths) (b : Stores) (sound : Sound Q n b) where
       let way-so = is ∙ ap (wayTo m) (sym left-long) in
       let far-so = far ∙ ap (farTo m) (sym left-long) in
       let acted : carried Delete way (Reached d 0) (holding p) ≡ act = λ i. carried Delete (way-so i) (Reached (far-so i) 0) (holding p) in
-      let room = sound-fits T Q _ (cut-sound T Q (At m) p (encoded .sound .texts)) in
+      let whole : Plain = withHolding (act .state) p in
+      let room = sound-fits T Q (withMark Unmarked whole) (cut-sound T Q (At m) p (encoded .sound .texts)) in
       (λ i. record { reply = (replied ∙ λ i. heldReply (lengths i) t) i; stores = stores text (b .recall) held (b .side) })
-      ∙ (holding-done act Unmarked room (turns ∙ ap (written (holdingSizes n) (b .text) (b .held)) acted)
+      ∙ (holding-done act Unmarked (sym (fits-marked T Q Unmarked whole) ∙ room) (turns ∙ ap (written (holdingSizes n) (b .text) (b .held)) acted)
       ∙ (ap (editedTo Q n b) (sym (cond-true _ _ room)) ∙ ap (λ mark. editedTo Q n b (bounded T Q (cutTo mark p))) (sym at)))

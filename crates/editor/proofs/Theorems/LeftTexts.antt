@@ -20,6 +20,8 @@ use Rattle.editor.specs.Rules.Passages.{withLines, passageTo}
 use Rattle.editor.specs.Rules.Plain.{Side, Plain, quiet, rang, Did, reporting}
 use Rattle.editor.specs.Rules.Keys.{inserted, carried, function, recalled, sideOf, withSide, onSide, quoted, withPattern, matches, searched, found}
 use Rattle.editor.specs.Rules.Keys.{withReplacement, exchanged, substituted, replaced, markedHere, pasted, acted, pressed}
+use Rattle.gap.proofs.Laws.Tests.{clash}
+use Rattle.editor.specs.Wording.Marks.{cuts}
 use Rattle.editor.proofs.Theorems.LinesCrossed.{moved-left, moved-right, deleted-left}
 
 pub record LeftKept (d e : Doc) (lines : ℕ) : Type 0 where
@@ -119,7 +121,7 @@ replaced-left Quoted p = exchanged-left (withReplacement Quoted p) (matches (p .
 -- ---- Every key
 
 -- CUT alone reports no lines of what it takes.
-pub left-kept : (k : Key) (p : Plain) → ¬ (k ≡ Cut)
+pub left-kept : (k : Key) (p : Plain) → cuts k ≡ false
     → LeftKept (p .main .text) (pressed k p .state .main .text) (pressed k p .report .lines)
 unfolding pressed acted inserted function recalled quoted found replaced markedHere pasted
 left-kept (Insert b) p other = on-side-left (inserted b) (λ s. inserted-left _ (splice-left 0 _ (s .text))) p
@@ -129,5 +131,5 @@ left-kept Quote p other = stayed refl
 left-kept (Find way) p other = found-left way (p .mode) p
 left-kept Replace p other = replaced-left (p .mode) p
 left-kept Mark p other = stayed refl
-left-kept Cut p other = absurd (other refl)
+left-kept Cut p other = clash refl other
 left-kept Paste p other = inserted-left (p .held .l) (splice-left 0 (p .held) (p .main .text))

@@ -1,7 +1,7 @@
 -- How the promises of the functions about the mark speak: the record with another mark or held text, and what a key changes, in numbers.
 use mathlib.Core.Path.{_≡_}
 use Prim.Native.Nat.{_≤_}
-use Rattle.editor.specs.Words.{true, cond, ℕ, _+_, _-_, Direction, Left, Right, Mode, Main, Quoted, Marking, Move, Delete}
+use Rattle.editor.specs.Words.{Bool, true, false, cond, ℕ, _+_, _-_, Direction, Left, Right, Mode, Main, Quoted, Marking, Move, Delete}
 use Rattle.editor.specs.Words.{Key, Insert, Function, Recall, Quote, Find, Replace, Mark, Cut, Paste}
 use Rattle.editor.specs.Words.{Sizes, Lengths, Report, Exchange}
 use Rattle.editor.specs.declared.SideReply.{SideReply}
@@ -69,6 +69,18 @@ exchangeOf Replace n report m = cond (report .bell) nothing (record { before = 0
 exchangeOf Mark n report m = nothing
 exchangeOf Cut n report m = nothing
 exchangeOf Paste n report m = coming (n .hl + n .hr)
+
+-- CUT is the one key that reports no lines of what it takes from before the cursor.
+abbrev pub cuts : Key → Bool
+cuts (Insert b) = false
+cuts (Function action way place) = false
+cuts Recall = false
+cuts Quote = false
+cuts (Find way) = false
+cuts Replace = false
+cuts Mark = false
+cuts Cut = true
+cuts Paste = false
 
 -- The mark through it, and a key's reply with that mark.
 abbrev pub markExchanged : Exchange → ℕ → Marking → Marking
