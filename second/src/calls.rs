@@ -180,8 +180,8 @@ fn on_session(random: &mut Random, times: usize) -> Call {
     }
     let seen = virtual_text(&editor);
     let at = offsets(random, &seen, h, w);
-    let (text, recall, side) = encode(&editor, t);
-    let mut stores = Stores { text, recall, side, screen: window(&seen, at, h, w) };
+    let (text, recall, held, side) = encode(&editor, t);
+    let mut stores = Stores { text, recall, held, side, screen: window(&seen, at, h, w) };
     // The lent screen may show anything; only the named rows depend on it.
     for _ in 0..random.pick(&[0, 0, 0, 0, 1, 3]) {
         let cell = random.below(h * w);

@@ -165,10 +165,10 @@ fn smaller_states(call: &Call) -> Vec<Call> {
     let make = |editor: &Editor, t: usize, h: usize, w: usize, from: Offsets| {
         let seen = virtual_text(editor);
         let at = policy(&seen, from, h, w);
-        let (text, recall, side) = encode(editor, t);
+        let (text, recall, held, side) = encode(editor, t);
         let same = (h, w) == (given.rows, given.columns);
         let screen = if same { call.stores.screen.clone() } else { window(&seen, at, h, w) };
-        Call { kind: Kind::Key { record: record(editor, at, h, w), numbers }, stores: Stores { text, recall, side, screen } }
+        Call { kind: Kind::Key { record: record(editor, at, h, w), numbers }, stores: Stores { text, recall, held, side, screen } }
     };
     let here = Offsets { r: given.top, c: given.left };
     let mut all = vec![make(&editor, t, h, w, Offsets::default())];
@@ -209,6 +209,8 @@ fn parts(editor: &Editor) -> Vec<Vec<u8>> {
 fn assemble(editor: &Editor, parts: Vec<Vec<u8>>) -> Editor {
     let doc = |i: usize| Doc::new(&parts[i], &parts[i + 1]);
     Editor {
+        held: Default::default(),
+        mark: None,
         main: Edited { text: doc(0), recall: doc(4) },
         quoted: Edited { text: doc(2), recall: doc(6) },
         replacement: doc(8),
