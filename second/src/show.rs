@@ -1,6 +1,6 @@
 //! Inputs and outcomes as a person reads them.
 
-use crate::bytes::{Record, Stores};
+use crate::bytes::{Record, Stores, NO_MARK};
 use crate::calls::{Call, Kind};
 use crate::core::Reply;
 use crate::paint::Painting;
@@ -60,7 +60,10 @@ fn line((name, area): &(&str, &[u8])) -> String {
 fn numbers(mut record: Record) -> String {
     let lengths = ["l", "r", "ql", "qr", "rl", "rr", "qrl", "qrr", "xl", "xr", "pl"];
     let others = ["mode", "top", "left", "rows", "columns", "held_left", "held_right", "mark"];
-    let shown = lengths.iter().chain(&others).zip(record.fields()).map(|(name, value)| format!(" {name}={value}"));
+    let shown = lengths.iter().chain(&others).zip(record.fields()).map(|(name, value)| match *value {
+        NO_MARK if *name == "mark" => " mark=none".into(),
+        value => format!(" {name}={value}"),
+    });
     format!("  record     {}\n", shown.collect::<String>())
 }
 
