@@ -109,6 +109,12 @@ impl Writer {
             let key = Key::Function(Action::Move, self.random.pick(&DIRECTIONS), self.random.pick(&PLACES));
             self.press(key);
         }
+        // Often there is a mark again, at the cursor or a few bytes from it: CUT has dropped the one before.
+        if self.random.percent(60) {
+            self.press(Key::Mark);
+            let (direction, away) = (self.random.pick(&DIRECTIONS), self.random.pick(&[0, 1, 3]));
+            self.step(direction, away);
+        }
         for _ in 0..self.random.pick(&[1, 1, 2]) {
             self.press(Key::Paste);
         }
