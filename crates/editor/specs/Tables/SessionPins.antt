@@ -1,5 +1,5 @@
--- What document 01 and request M-101 say of lengths, stores and sessions, on stores so small that they can be read: T is 6, and a quarter has 4 bytes.
--- A free byte is written `_`.
+-- What document 01 and request M-101 say of lengths, stores and sessions, on stores so small that they can be read: T is 6, and a quarter
+-- has 4 bytes. A free byte is written `_`.
 use Prim.Native.String.{String}
 use Rattle.editor.specs.Words.{List, [], _∷_, Bool, not, _&&_, ℕ, eqb, Mode, Main, Quoted, Sizes, Lengths}
 use Rattle.editor.specs.Words.{Marking, Unmarked, At}
@@ -23,7 +23,7 @@ full =
       pattern = bytes "jkl";
       replacement = marked "mn|op";
       mode = Quoted;
-      held = marked "qrstu|";
+      held = marked "|qrstu";
       mark = At 1;
     }
 
@@ -35,7 +35,7 @@ lengths main quoted xl xr pl mode hl hr mark =
     record { main = main; quoted = quoted; xl = xl; xr = xr; pl = pl; mode = mode; hl = hl; hr = hr; mark = mark }
 
 abbrev pub fullLengths : Lengths
-fullLengths = lengths (sizes 2 1 0 1) (sizes 1 2 2 0) 2 2 3 Quoted 5 0 (At 1)
+fullLengths = lengths (sizes 2 1 0 1) (sizes 1 2 2 0) 2 2 3 Quoted 0 5 (At 1)
 
 abbrev pub stores : String → String → String → String → Stores
 stores text recall held side = record { text = stored text; recall = stored recall; held = stored held; side = stored side }
@@ -80,7 +80,7 @@ layoutPins =
     ∷ isBytes (plainOf 4 fullLengths fullStores .pattern) "jkl"
     ∷ isDoc (plainOf 4 fullLengths fullStores .replacement) "mn|op"
     ∷ sameMode (plainOf 4 fullLengths fullStores .mode) Quoted
-    ∷ isDoc (plainOf 4 fullLengths fullStores .held) "qrstu|"
+    ∷ isDoc (plainOf 4 fullLengths fullStores .held) "|qrstu"
     ∷ sameMarking (plainOf 4 fullLengths fullStores .mark) (At 1)
     ∷ [])
     ∷ sentence "opening: all of the text lies right of the cursor, there is no mark, and every pair is empty, the held one too (M-101)"
@@ -114,7 +114,7 @@ layoutPins =
 -- The held pair and the mark are those of the full state.
 abbrev pub isOk : Sizes → Sizes → ℕ → ℕ → ℕ → Mode → String → String → String → Bool
 isOk main quoted xl xr pl mode text recall side =
-    editorOk 4 (lengths main quoted xl xr pl mode 5 0 (At 1)) (stores text recall "qrstu_" side)
+    editorOk 4 (lengths main quoted xl xr pl mode 0 5 (At 1)) (stores text recall "qrstu_" side)
 
 -- The full state with another record, with another store, with another held pair, with another mark.
 abbrev pub withSizes : Sizes → Sizes → ℕ → ℕ → ℕ → Bool
@@ -128,7 +128,7 @@ withHeld hl hr held =
     editorOk 4 (lengths (sizes 2 1 0 1) (sizes 1 2 2 0) 2 2 3 Quoted hl hr (At 1)) (stores "ab___c" "d_____" held "e_fghi__jkl_mnop")
 
 abbrev pub withMarking : Marking → Bool
-withMarking mark = editorOk 4 (lengths (sizes 2 1 0 1) (sizes 1 2 2 0) 2 2 3 Quoted 5 0 mark) fullStores
+withMarking mark = editorOk 4 (lengths (sizes 2 1 0 1) (sizes 1 2 2 0) 2 2 3 Quoted 0 5 mark) fullStores
 
 -- An empty document with this mark.
 abbrev pub isEmptyWith : Marking → Bool
@@ -173,7 +173,8 @@ sessionPins =
     ∷ withSizes (sizes 2 1 1 0) (sizes 1 2 0 2) 2 2 3
     ∷ [])
     ∷ sentence "the held pair is under the recall pair's rule: it fits, its bytes are allowed, free bytes are 0, one half is empty (M-101)"
-    (withHeld 0 5 "qrstu_"
+    (withHeld 5 0 "qrstu_"
+    ∷ withHeld 0 5 "qrstu_"
     ∷ withHeld 0 0 "______"
     ∷ withHeld 6 0 "qrstuv"
     ∷ withHeld 0 6 "qrst\nv"
