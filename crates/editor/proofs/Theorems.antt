@@ -5,4 +5,5 @@ pub mod Refusals
 pub mod Recall
 pub mod LinesCrossed
 pub mod LeftTexts
+pub mod Marks
 pub mod Pins

@@ -62,6 +62,19 @@ exchange-so Mark p did other = refl
 exchange-so Cut p did other = clash refl other
 exchange-so Paste p did other = refl
 
+-- For CUT nothing is changed in numbers.
+cut-nothing : (k : Key) (p : Plain) (did : Did Plain) → cuts k ≡ true → exchangeBy k p did ≡ nothing
+unfolding exchangeOf
+cut-nothing (Insert b) p did cut = clash cut refl
+cut-nothing (Function action way place) p did cut = clash cut refl
+cut-nothing Recall p did cut = clash cut refl
+cut-nothing Quote p did cut = clash cut refl
+cut-nothing (Find way) p did cut = clash cut refl
+cut-nothing Replace p did cut = clash cut refl
+cut-nothing Mark p did cut = clash cut refl
+cut-nothing Cut p did cut = refl
+cut-nothing Paste p did cut = clash cut refl
+
 -- So the mark goes the same way. CUT leaves none to go.
 mark-by : (k : Key) (p : Plain) (did : Did Plain) → cuts k ≡ false
     → markOf k (lengthsOf p) (did .report) (lengthsOf (did .state)) ≡ markChanged (changeOf k p did) (p .main .text) (did .state .mark)
@@ -138,3 +151,120 @@ within-more n m (At i) order e = le-leb i m (omega (arith, order, leb-true i n e
 
 pub position-within : (n m : ℕ) (mark : Marking) → mark ≡ At m → markWithin n mark ≡ true → m ≤ n
 position-within n m mark at e = leb-true m n (subst (λ mark. markWithin n mark ≡ true) at e)
+
+-- ---- A key's reply, once the mark has gone through its change
+
+module _ (Q : ℕ) (n : Lengths) (b : Stores) (sound : Sound Q n b) (k : Key) (ok : soundKey (n .mode) k ≡ true) where
+  abbrev p : Plain
+  p = plainOf Q n b
+
+  abbrev T : ℕ
+  T = length (b .text)
+
+  abbrev did : Did Plain
+  did = acted k p
+
+  encoded : Encoded Q n b
+  encoded = session-encoded Q n b (sound .tabled) (sound .ok)
+
+  key-bounded : key T Q k p ≡ bounded T Q (pressed k p)
+  unfolding key plainOf
+  key-bounded = cond-true _ _ ok
+
+  -- It is done, or refused as FULL, as it would be without the mark.
+  abbrev decided-by : Bool → Did Plain → Outcome
+  decided-by room did = cond room (done did) (refused FULL)
+
+  pressed-by : (room : Bool) → fits T Q (did .state) ≡ room → key T Q k p ≡ decided-by room (pressed k p)
+  unfolding bounded
+  pressed-by room e = key-bounded ∙ ap (λ t. decided-by t (pressed k p)) (fits-acted T Q k p ∙ e)
+
+  module _ {r : EditorReply} {c : Stores} (e : record { reply = r; stores = c } ≡ editedTo Q n b (bounded T Q (acted k p))) where
+    replied : (room : Bool) → fits T Q (did .state) ≡ room → record { reply = r; stores = c } ≡ editedTo Q n b (decided-by room did)
+    unfolding bounded
+    replied room t = e ∙ ap (λ t. editedTo Q n b (decided-by t did)) t
+
+    -- A refused key: the reply as it is.
+    pub refused-same : ¬ (r .code ≡ 0) → record { reply = r; stores = c } ≡ editedTo Q n b (key T Q k p)
+    refused-same not-done =
+        ⊎-elim (λ t. absurd (not-done (ap (λ a. a .reply .code) (replied true t))))
+        (λ t. replied false t ∙ ap (editedTo Q n b) (sym (pressed-by false t)))
+        (decided (fits T Q (did .state)))
+
+    -- A key that is done has room.
+    has-room : r .code ≡ 0 → fits T Q (did .state) ≡ true
+    has-room none =
+        ⊎-elim (λ t. t) (λ t. absurd (omega (arith, sym none ∙ ap (λ a. a .reply .code) (replied false t)))) (decided (fits T Q (did .state)))
+
+    module _ (none : r .code ≡ 0) where
+      done-so : record { reply = r; stores = c } ≡ editedTo Q n b (done did)
+      done-so = replied true (has-room none)
+
+      -- The reply with the mark where the change leaves it.
+      pub done-followed : record { reply = followedReply k n r; stores = c } ≡ editedTo Q n b (key T Q k p)
+      unfolding pressed lengthsOf storesOf
+      done-followed =
+          let so = encoded .lengths in
+          ap (λ (a : Edited). record { reply = followedReply k n (a .reply); stores = a .stores }) done-so
+          ∙ ((λ i. record {
+            reply = record {
+              code = 0;
+              report = did .report;
+              lengths = markedAt ((ap (λ m. markOf k m (did .report) (lengthsOf (did .state))) (sym so) ∙ mark-so k p) i) (lengthsOf (did .state));
+            };
+            stores = storesOf T Q (did .state);
+          })
+          ∙ ap (editedTo Q n b) (sym (pressed-by true (has-room none))))
+
+      after-sound : SoundTexts T Q (did .state)
+      unfolding plainOf
+      after-sound = acted-sound T Q k p ok (has-room none) (encoded .sound .texts)
+
+      -- Nothing of it is longer than a store.
+      moderate-by : Q ≤ 65536 → (e : Exchange) → e ≡ inNumbers (changeOf k p did) → Moderate e (length (p .main .text .l)) (did .state .mark)
+      moderate-by small e so =
+          let known = measured Q b (sound .tabled) in
+          let texts = encoded .sound .texts in
+          let takes = change-within k p (encoded .sound .mark) in
+          rw so
+          (record {
+            before = takes .before;
+            left = omega (arith, texts .text .fits, known .high);
+            behind = omega (arith, takes .behind, texts .text .fits, known .high);
+            come = come-within T Q k p did (known .low) small (known .high) texts after-sound;
+            position = within-more _ 65536 (did .state .mark) (omega (arith, texts .text .fits, known .high)) (acted-mark-within k p (encoded .sound .mark));
+          })
+
+      moderate-cut : Moderate nothing (length (p .main .text .l)) (did .state .mark)
+      moderate-cut =
+          let known = measured Q b (sound .tabled) in
+          let texts = encoded .sound .texts in
+          record {
+            before = omega arith;
+            left = omega (arith, texts .text .fits, known .high);
+            behind = omega arith;
+            come = omega arith;
+            position = within-more _ 65536 (did .state .mark) (omega (arith, texts .text .fits, known .high)) (acted-mark-within k p (encoded .sound .mark));
+          }
+
+      moderate : Q ≤ 65536 → Moderate (exchangeBy k p did) (length (p .main .text .l)) (did .state .mark)
+      moderate small =
+          ⊎-elim (λ t. subst (λ e. Moderate e (length (p .main .text .l)) (did .state .mark)) (sym (cut-nothing k p did t)) moderate-cut)
+          (λ t. moderate-by small (exchangeBy k p did) (exchange-so k p did t))
+          (decided (cuts k))
+
+      pub can-follow : Q ≤ 65536 → Followable k n r
+      unfolding lengthsOf
+      can-follow small =
+          let known = measured Q b (sound .tabled) in
+          let texts = encoded .sound .texts in
+          let so = encoded .lengths in
+          let reply = ap (λ (a : Edited). a .reply) done-so in
+          record {
+            recall = subst (λ m. m .main .rl + m .main .rr ≤ 65536) so (omega (arith, texts .recall .fits, known .high));
+            held = subst (λ m. m .hl + m .hr ≤ 65536) so (omega (arith, texts .held .fits, known .high));
+            replacement = subst (λ a. a .lengths .xl + a .lengths .xr ≤ 65536) (sym reply) (omega (arith, after-sound .replacement .fits, small));
+            moderate =
+                subst (λ a. Moderate (exchangeOf k n (a .report) (a .lengths)) (n .main .l) (a .lengths .mark)) (sym reply)
+                (subst (λ m. Moderate (exchangeOf k m (did .report) (lengthsOf (did .state))) (m .main .l) (did .state .mark)) so (moderate small));
+          }

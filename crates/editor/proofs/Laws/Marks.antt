@@ -4,12 +4,14 @@ use mathlib.Core.Path.{_≡_, refl, sym, ap, _∙_}
 use mathlib.Core.Bool.{Bool, true, false, cond, false≢true}
 use mathlib.Core.List.{[], _∷_, append-nil}
 use Prim.Native.Nat.{ℕ, _+_, _-_, _≤_}
+use native.Mathlib.Nat.{sub-zero}
 use native.Mathlib.Omega.{arith}
 use borrow.Author.Tests.{le-leb, leb-true, leb-false, ltb-false}
 use lib.Dec.{eqb, leb, ltb}
-use lib.ListN.{length, length-append}
+use lib.ListN.{length, drop, length-append, length-drop, take-append-drop}
+use lib.Seq.{take-length, length-take-le}
 use Rattle.gap.specs.declared.Search.the-variants as search
-use Rattle.gap.specs.Rules.Doc.{Doc, empty, content, room, delete, times, splice}
+use Rattle.gap.specs.Rules.Doc.{Doc, empty, content, room, delete, times, passed, splice, removed}
 use Rattle.gap.specs.Rules.Nearest.{distance}
 use Rattle.gap.proofs.Laws.Doc.{same-texts, deletions-left, deletions-right, insertions, content-moves}
 use Rattle.gap.proofs.Laws.Compared.{begins-fits}
@@ -47,6 +49,23 @@ unchanged-text d = insertions empty d ∙ same-texts (append-nil (d .l)) refl
 pub taken-text : (way : Direction) (n : ℕ) (d : Doc) → times (delete way) n d ≡ changed (taking way n) d
 taken-text Left n d = deletions-left n d
 taken-text Right n d = deletions-right n d
+
+-- What n deletions removed, put around the cursor again, gives the text back.
+pub put-back : (way : Direction) (n : ℕ) (d : Doc) → splice 0 0 (removed way n d) (times (delete way) n d) ≡ d
+unfolding removed passed splice
+put-back Left n d =
+    ap (splice 0 0 (removed Left n d)) (deletions-left n d) ∙ insertions (removed Left n d) (splice n 0 empty d)
+    ∙ same-texts (rw (append-nil, take-append-drop)) refl
+put-back Right n d =
+    ap (splice 0 0 (removed Right n d)) (deletions-right n d) ∙ insertions (removed Right n d) (splice 0 n empty d)
+    ∙ same-texts (simp (append-nil, sub-zero, take-length)) (take-append-drop n (d .r))
+
+-- And where there is room for them, it is n bytes.
+pub length-removed : (way : Direction) (n : ℕ) (d : Doc) → n ≤ room way d → length (content (removed way n d)) ≡ n
+unfolding removed passed
+length-removed Left n d near =
+    omega (arith, length-append (drop (length (d .l) - n) (d .l)) [], length-drop (length (d .l) - n) (d .l))
+length-removed Right n d near = length-take-le n (d .r) near
 
 -- A deletion takes the bytes that it reports; with the bell none.
 deleted-text : (way : Direction) (passage : Passage) (s : Side)

@@ -4,6 +4,7 @@ use mathlib.Core.Path.{refl}
 use Rattle.editor.specs.Rules.Keys.{acted}
 use Rattle.editor.specs.Rules.Bytes.{quarter}
 use Rattle.editor.proofs.Laws.Fitting.{fitting, searchable}
+use Rattle.editor.proofs.Laws.Holding.{on-holding, mark-inside}
 use Rattle.editor.proofs.keys.act.Statement.{statement}
 use Rattle.editor.proofs.keys.act.Tie as tie
 
@@ -53,6 +54,34 @@ returns-6 c =
     let done : tie.After-replace-key = search in let known : tie.After-enum-told3 = search in let start : tie.Start = search in
     rw (known .enum-told3 .given .1) (done .replace-key .ensures _ (start .pre))
 
+cut-key-requires : tie.Need-cut-key-requires
+cut-key-requires c κs =
+    let start : tie.Start = search in
+    (on-holding quarter _ _ (start .pre), mark-inside quarter _ _ (start .pre))
+
+paste-key-requires : tie.Need-paste-key-requires
+paste-key-requires c κs =
+    let start : tie.Start = search in
+    on-holding quarter _ _ (start .pre)
+
+returns-7 : tie.Need-returns-7
+unfolding acted
+returns-7 c =
+    let done : tie.After-mark-key = search in let known : tie.After-enum-told4 = search in let start : tie.Start = search in
+    rw (known .enum-told4 .given .1) (done .mark-key .ensures _ (start .pre))
+
+returns-8 : tie.Need-returns-8
+unfolding acted
+returns-8 c =
+    let done : tie.After-cut-key = search in let known : tie.After-enum-told5 = search in let start : tie.Start = search in
+    rw (known .enum-told5 .given .1) (done .cut-key .ensures _ _ (start .pre))
+
+returns-9 : tie.Need-returns-9
+unfolding acted
+returns-9 c =
+    let done : tie.After-paste-key = search in let known : tie.After-enum-told6 = search in let start : tie.Start = search in
+    rw (known .enum-told6 .given .1) (done .paste-key .ensures _ _ (start .pre))
+
 pub act-spec : {M : Type 1} → statement M
 act-spec = tie.close (tie.spec
     (λ c. search needs)  -- enum-known-k
@@ -67,6 +96,12 @@ act-spec = tie.close (tie.spec
     find-key-requires
     (λ c. search needs)  -- enum-told-3
     (λ c κs. search needs)  -- replace-key-requires
+    (λ c. search needs)  -- enum-told-4
+    (λ c κs. search needs)  -- mark-key-requires
+    (λ c. search needs)  -- enum-told-5
+    cut-key-requires
+    (λ c. search needs)  -- enum-told-6
+    paste-key-requires
     (λ c. search needs) (λ c. search needs) (λ c. search needs)  -- same-length .. same-length-3
     returns
     (λ c. search needs) (λ c. search needs) (λ c. search needs)  -- same-length-4 .. same-length-6
@@ -78,4 +113,8 @@ act-spec = tie.close (tie.spec
     (λ c. search needs) (λ c. search needs)  -- same-length-11 .. same-length-12
     returns-5
     (λ c. search needs) (λ c. search needs) (λ c. search needs)  -- same-length-13 .. same-length-15
-    returns-6)
+    returns-6 returns-7
+    (λ c. search needs) (λ c. search needs)  -- same-length-16 .. same-length-17
+    returns-8
+    (λ c. search needs) (λ c. search needs)  -- same-length-18 .. same-length-19
+    returns-9)
