@@ -49,16 +49,33 @@ pub fn newlines_after(above: usize, was: Sizes, done: EditorReply, text: &[u8]) 
     above + count_newlines(&text[l..m])
 }
 
-// After CUT they are counted anew: it reports no lines of what it takes from before the cursor. (02, M-104: lines, 0 for other keys.)
+// CUT is the one key that reports no lines of what it takes from before the cursor. (02, M-104: lines, 0 for other keys.)
+fn is_cut(k: Key) -> bool
+    ensures { λ cut. ⌜ cut ≡ cuts k ⌝ }
+{
+    match k {
+        Key::Insert(_) => false,
+        Key::Function(_, _, _) => false,
+        Key::Recall => false,
+        Key::Quote => false,
+        Key::Find(_) => false,
+        Key::Replace => false,
+        Key::Mark => false,
+        Key::Cut => true,
+        Key::Paste => false,
+    }
+}
+
+// So after CUT the newlines left of the cursor are counted anew.
 pub fn newlines_now(k: Key, above: usize, was: Sizes, done: EditorReply, text: &[u8]) -> usize
     requires { ⌜ done .lengths .main .l ≤ length (now text) ⌝ }
-    requires { ⌜ cuts k ≡ false → LeftCounted above (was .l) (done .lengths .main .l) (done .report .lines) (now text) ⌝ }
+    requires { ⌜ (cuts k ≡ false → LeftCounted above (was .l) (done .lengths .main .l) (done .report .lines) (now text)) ⌝ }
     ensures { λ below. ⌜ below ≡ newlinesLeft (done .lengths .main .l) (now (text .entry)) ⌝ }
 {
-    let Key::Cut = k else {
-        return newlines_after(above, was, done, text);
-    };
-    newlines_left(done.lengths, text)
+    if is_cut(k) {
+        return newlines_left(done.lengths, text);
+    }
+    newlines_after(above, was, done, text)
 }
 
 // Row from 1 and column from 0, over the texts left of the cursor only.

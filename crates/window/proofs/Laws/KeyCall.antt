@@ -307,10 +307,8 @@ module _ (s : Session) (k : Key) (b : Lent) (fit : tabled (s .frame .h) (s .fram
       let o = shown (s .frame) (record { stores = after; screen = b .screen }) did in
       let (sound-key, room, did-so) = accepted (T (b .stores)) quarter k (held s (b .stores)) did .0 outcome in
       let p = held s (b .stores) in
-      let left-so = λ other. subst (λ d. LeftKept (p .main .text) (d .state .main .text) (d .report .lines)) did-so (left-kept k p other) in
       let n = s .lengths .main in
       let document = fitting quarter (s .lengths) (b .stores) (session-sound s b fit ok) .document in
-      let counted = λ other. counted-left (n .l) (n .r) (T (b .stores)) (did .report .lines) (b .stores .text) (did .state .main .text) document (left-so other) in
       record {
         sound = record { tabled = sized-so; ok = ok-so };
         fit = and-both sized-so (and-both (facts .frame) (eq-eqb _ _ (facts .long)));
@@ -318,9 +316,11 @@ module _ (s : Session) (k : Key) (b : Lent) (fit : tabled (s .frame .h) (s .fram
             ap (shown (s .frame) (record { stores = after; screen = b .screen })) (λ i. record { state = state i; report = report i })
             ∙ (ap (λ t. record { answer = o .answer; session = o .session; lent = lentOf t (did .state) (o .session .frame) }) long
             ∙ (ap (finished s b) (sym outcome) ∙ sym (session-keyed s k b fit ok)));
-        left =
-            λ other. transport
-            (λ i. LeftCounted (newlinesLeft (n .l) (b .stores .text)) (n .l) (sym lengths i .main .l) (sym report i .lines) (sym same i .text)) (counted other);
+        left = λ other.
+            let left-so = subst (λ d. LeftKept (p .main .text) (d .state .main .text) (d .report .lines)) did-so (left-kept k p other) in
+            let counted = counted-left (n .l) (n .r) (T (b .stores)) (did .report .lines) (b .stores .text) (did .state .main .text) document left-so in
+            transport
+            (λ i. LeftCounted (newlinesLeft (n .l) (b .stores .text)) (n .l) (sym lengths i .main .l) (sym report i .lines) (sym same i .text)) counted;
       }
 
   pub press-done : record { reply = r; stores = after } ≡ editedTo quarter (s .lengths) (b .stores) (key (T (b .stores)) quarter k (held s (b .stores)))

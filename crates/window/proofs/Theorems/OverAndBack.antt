@@ -1,7 +1,7 @@
 -- The numbers of the host's boundary: what goes over and back is the same, and which numbers name which key.
 use mathlib.Core.Path.{_≡_, refl, sym, ap, _∙_}
 use mathlib.Core.Logic.{_↔_, ⊎-elim}
-use mathlib.Core.Bool.{Bool, true, false, _&&_}
+use mathlib.Core.Bool.{Bool, true, false, _&&_, false≢true}
 use Prim.Native.Nat.{ℕ, zero, suc, _≤_, _<_}
 use native.Mathlib.Omega.{arith}
 use lib.Dec.{eqb, leb}
@@ -24,7 +24,7 @@ mode-over Main = refl
 mode-over Quoted = refl
 
 unmarked-at : {m : ℕ} → ¬ (Unmarked ≡ At m)
-unmarked-at e = cc
+unmarked-at e = false≢true cc
 
 at-same : {m n : ℕ} → At m ≡ At n → m ≡ n
 at-same e = cc

@@ -6,7 +6,7 @@ use Prim.Native.Nat.{ℕ, _≤_}
 use Rattle.gap.proofs.Laws.Layout.{length-gapped}
 use Rattle.editor.specs.Rules.Refusals.{FULL}
 use Rattle.editor.specs.Rules.Plain.{Plain, quiet, reporting}
-use Rattle.editor.specs.Rules.Keys.{sideOf, pressed, key, after, Exceeds}
+use Rattle.editor.specs.Rules.Keys.{sideOf, withMark, pressed, key, after, Exceeds}
 use Rattle.editor.specs.Rules.Bytes.{quarter, lengthsOf, storesOf, SoundPlain}
 use Rattle.editor.specs.Wording.Recalling.{withRecall, recallPutIn}
 use Rattle.editor.proofs.Laws.Outcomes.{accepted}
@@ -53,7 +53,7 @@ module _ (s : Session) (b : Lent) (action : Action) (way : Direction) (place : P
   unfolding storesOf
   same-size =
       let kept = key-keeps (T (b .stores)) quarter (Function action way place) before (carried .did) sound (carried .plain) in
-      ap T (carried .stores) ∙ length-gapped (T (b .stores)) (carried .did .state .main .text) (kept .text .fits)
+      ap T (carried .stores) ∙ length-gapped (T (b .stores)) (carried .did .state .main .text) (kept .texts .text .fits)
 
 module _ (s : Session) (b : Lent) (way : Direction) (place : Place) (o : Called) (promise : KeyPromise s (Function Delete way place) b o)
     (accepts : o .answer .code ≡ 0) (next : Called) (recalls : KeyPromise (o .session) Recall (o .lent) next) where
@@ -72,10 +72,12 @@ module _ (s : Session) (b : Lent) (way : Direction) (place : Place) (o : Called)
   does : KeyDoes (o .session) Recall (o .lent) next
   does = key-does (o .session) Recall (o .lent) next recalls
 
-  -- ---- A deletion that reported steps above 0: RECALL is accepted, and gives text and cursor back
+  -- ---- A deletion that reported steps above 0: RECALL is accepted, and gives text and cursor back; the mark goes through both changes
 
   pub recall-restored : 1 ≤ o .answer .report .steps
-      → (next .answer .code ≡ 0) × (held (next .session) (next .lent .stores) ≡ withRecall (sideOf (start .mode) between .recall) start)
+      → (next .answer .code ≡ 0)
+      × (held (next .session) (next .lent .stores)
+      ≡ withMark (recallPutIn between .mark) (withRecall (sideOf (start .mode) between .recall) start))
   unfolding finished shown
   recall-restored some =
       let restores = recall-restores size quarter way place start (deleted .did) (deleted .plain) (sound s b Delete way place o promise accepts)
@@ -85,7 +87,7 @@ module _ (s : Session) (b : Lent) (way : Direction) (place : Place) (o : Called)
       let ok = deleted .follows .ok in (
         ap (λ o. o .answer .code) (recalls ∙ (session-keyed (o .session) Recall (o .lent) fit ok ∙ ap (finished (o .session) (o .lent)) said)),
         key-holds (o .session) Recall (o .lent) next recalls fit ok
-            ∙ (ap (after between) said ∙ ap (λ p. withRecall (sideOf (start .mode) p .recall) start) (sym (deleted .holds))),
+            ∙ (ap (after between) said ∙ ap (λ p. withMark (recallPutIn p .mark) (withRecall (sideOf (start .mode) p .recall) start)) (sym (deleted .holds))),
       )
 
   -- ---- A deletion with the bell: RECALL puts the recall text in as it was before the deletion, or is refused as FULL
@@ -101,13 +103,13 @@ module _ (s : Session) (b : Lent) (way : Direction) (place : Place) (o : Called)
     pub older-full : (next .answer .code ≡ FULL) ↔ Exceeds size quarter (recallPutIn start)
     older-full = (
       λ e. transport same-exceeding (does .full .0 e .2),
-      λ over. does .full .1 (deleted .follows, recall-sound, transport (sym same-exceeding) over),
+      λ over. does .full .1 (deleted .follows, recall-sound (between .mode), transport (sym same-exceeding) over),
     )
 
     pub older-accepted : (next .answer .code ≡ 0) ↔ (¬ Exceeds size quarter (recallPutIn start))
     older-accepted = (
       λ e over. does .accepted .0 e .2 (transport (sym same-exceeding) over),
-      λ short. does .accepted .1 (deleted .follows, recall-sound, λ over. short (transport same-exceeding over)),
+      λ short. does .accepted .1 (deleted .follows, recall-sound (between .mode), λ over. short (transport same-exceeding over)),
     )
 
     pub older-put-in : next .answer .code ≡ 0 → held (next .session) (next .lent .stores) ≡ recallPutIn start

@@ -89,8 +89,8 @@ back l r ql qr rl rr qrl qrr xl xr pl mode top left rows columns heldLeft heldRi
       left = left;
       rows = rows;
       columns = columns;
-      held-left = heldLeft;
-      held-right = heldRight;
+      held_left = heldLeft;
+      held_right = heldRight;
       mark = mark;
     }
 

@@ -32,14 +32,14 @@ pub chidukwore-key-spec : {M : Type 1} → statement M
 chidukwore-key-spec = tie.close (tie.spec
     (λ c κs. search needs)  -- tabled-stores-requires
     (λ c κs. search needs)  -- refusal-of-requires
-    (λ c. search needs) (λ c. search needs) (λ c. search needs) (λ c. search needs)  -- same-length .. same-length-4
+    (λ c. search needs) (λ c. search needs) (λ c. search needs) (λ c. search needs) (λ c. search needs)  -- same-length .. same-length-5
     returns
     (λ c κs. search needs)  -- refusal-of-requires-2
-    (λ c. search needs) (λ c. search needs) (λ c. search needs) (λ c. search needs)  -- same-length-5 .. same-length-8
+    (λ c. search needs) (λ c. search needs) (λ c. search needs) (λ c. search needs) (λ c. search needs)  -- same-length-6 .. same-length-10
     returns-2
     (λ c κs. search needs)  -- session-from-requires
     (λ c κs. search needs)  -- key-from-requires
     (λ c κs. search needs)  -- press-requires
     (λ c κs. search needs)  -- in-numbers-requires
-    (λ c. search needs) (λ c. search needs) (λ c. search needs) (λ c. search needs)  -- same-length-9 .. same-length-12
+    (λ c. search needs) (λ c. search needs) (λ c. search needs) (λ c. search needs) (λ c. search needs)  -- same-length-11 .. same-length-15
     returns-3)
