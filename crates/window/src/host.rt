@@ -46,8 +46,8 @@ pub struct Record {
     pub left: usize,
     pub rows: usize,
     pub columns: usize,
-    pub held_left: usize,
-    pub held_right: usize,
+    pub hl: usize,
+    pub hr: usize,
     pub mark: usize,
 }
 
@@ -116,8 +116,8 @@ fn session_from(n: Record) -> Session
             xr: n.xr,
             pl: n.pl,
             mode: mode_of(n.mode),
-            hl: n.held_left,
-            hr: n.held_right,
+            hl: n.hl,
+            hr: n.hr,
             mark: mark_from(n.mark),
         },
         frame: Frame {
@@ -175,8 +175,8 @@ fn record_from(s: Session) -> Record
         left: frame.c,
         rows: frame.h,
         columns: frame.w,
-        held_left: lengths.hl,
-        held_right: lengths.hr,
+        hl: lengths.hl,
+        hr: lengths.hr,
         mark: mark_number(mark),
     }
 }

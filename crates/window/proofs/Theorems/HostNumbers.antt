@@ -17,7 +17,7 @@ use Rattle.editor.specs.Rules.Bytes.{quarter, sized, plainOf, lengthsOf, stores
 use Rattle.window.specs.Rules.Window.{virtualIn, rowCells, joined, window, visible, policy}
 use Rattle.window.specs.Rules.Rows.{firstRow, lastRow}
 use Rattle.window.specs.Rules.Core.{tabled, isSession, openedText, opened, shown, finished, keyed}
-use Rattle.window.specs.Rules.Host.{none, keyFrom, keyOf, names, hostOpened, hostKeyed}
+use Rattle.window.specs.Rules.Host.{noMark, none, keyFrom, keyOf, names, hostOpened, hostKeyed}
 use Rattle.window.specs.Tables.HostNumbers.{keyRows, noKeys, said, pressedOn, lastReply, callRows, refusedReply, refusedRows}
 
 -- Which number is which kind, action, direction and place.
@@ -38,5 +38,5 @@ unfolding every sameBytes begins part zeros counted move delete times passed spl
     lines gapped paired ungap unpair soundGap soundPair lineBeginning lineEnding word documentEnd isAt soundKey inserted removed carried
     function recalled onSide quoted withPattern searched found withReplacement exchanged substituted replaced markedHere cutTo pasted acted changeOf markThrough pressed fits bounded key
     quarter sized plainOf lengthsOf storesOf editorOk virtualIn rowCells joined window visible policy firstRow lastRow tabled isSession
-    openedText opened shown finished keyed bytes keyFrom hostOpened hostKeyed pressedOn lastReply refusedReply
+    openedText opened shown finished keyed bytes noMark keyFrom hostOpened hostKeyed pressedOn lastReply refusedReply
 calls-numbered = (refl, refl)

@@ -47,8 +47,8 @@ sessionFrom n =
             xr = n .xr;
             pl = n .pl;
             mode = modeOf (n .mode);
-            hl = n .held_left;
-            hr = n .held_right;
+            hl = n .hl;
+            hr = n .hr;
             mark = markFrom (n .mark);
           };
       frame = record { r = n .top; c = n .left; h = n .rows; w = n .columns };
@@ -73,8 +73,8 @@ recordFrom s =
       left = s .frame .c;
       rows = s .frame .h;
       columns = s .frame .w;
-      held_left = s .lengths .hl;
-      held_right = s .lengths .hr;
+      hl = s .lengths .hl;
+      hr = s .lengths .hr;
       mark = markNumber (s .lengths .mark);
     }
 
@@ -259,8 +259,8 @@ zeroNumbers =
       left = 0;
       rows = 0;
       columns = 0;
-      held_left = 0;
-      held_right = 0;
+      hl = 0;
+      hr = 0;
       mark = noMark;
     }
 

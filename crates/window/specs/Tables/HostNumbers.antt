@@ -71,7 +71,7 @@ said code place steps lines bell first last row column =
     record { code = code; place = place; steps = steps; lines = lines; bell = bell; first = first; last = last; row = row; column = column }
 
 abbrev pub back : ℕ → ℕ → ℕ → ℕ → ℕ → ℕ → ℕ → ℕ → ℕ → ℕ → ℕ → ℕ → ℕ → ℕ → ℕ → ℕ → ℕ → ℕ → ℕ → Record
-back l r ql qr rl rr qrl qrr xl xr pl mode top left rows columns heldLeft heldRight mark =
+back l r ql qr rl rr qrl qrr xl xr pl mode top left rows columns hl hr mark =
     record {
       l = l;
       r = r;
@@ -89,8 +89,8 @@ back l r ql qr rl rr qrl qrr xl xr pl mode top left rows columns heldLeft heldRi
       left = left;
       rows = rows;
       columns = columns;
-      held_left = heldLeft;
-      held_right = heldRight;
+      hl = hl;
+      hr = hr;
       mark = mark;
     }
 

@@ -29,7 +29,7 @@ fit : (c : tie.Else1) → tabled (start c .args .s .frame .h) (start c .args .s 
 fit c = sym (c .before .tabled-stores .ensures) ∙ not-false _ (c .if1 .left)
 
 session-test-requires : tie.Need-session-test-requires
-session-test-requires c κs = tabled-facts _ _ _ (fit (c .before .before .before)) .stores
+session-test-requires c κs = let else1 : tie.Else1 = search in tabled-facts _ _ _ (fit else1) .stores
 
 returns-2 : tie.Need-returns-2
 returns-2 c =
@@ -37,8 +37,11 @@ returns-2 c =
     refused-session _ _ _ (fit else1) (tested-none _ _ (asked .session-test .ensures) (told .enum-told .given .1)) _ (c .turned-down2 .ensures)
 
 -- What the session test has told: record and stores are a session, and how many newlines stand left of the cursor.
+abbrev sized : tie.After-above → tie.Else1
+sized c = search
+
 abbrev started : tie.After-above → tie.Start
-started c = start (c .before .before .before .before .before .before)
+started c = start (sized c)
 
 tested : (c : tie.After-above) → let s = started c in
     (isSession (s .args .s) (entry s .stores) ≡ true) × (newlinesLeft (s .args .s .lengths .main .l) (entry s .stores .text) ≡ c .above .given .0 .0)
@@ -62,8 +65,14 @@ returns-3 c =
     (c .turned-down3 .ensures)
 
 -- The editor has done the key.
-accepted : (c : tie.Else2) → let done = c .before .before .before .before .before .before .before in
-    let s = started (done .before .before .before .before .before) in
+abbrev done-by : tie.Else2 → tie.After-press-session
+done-by c = search
+
+abbrev told-before : tie.After-press-session → tie.After-above
+told-before c = search
+
+accepted : (c : tie.Else2) → let done = done-by c in
+    let s = started (told-before done) in
     Accepted (s .args .s) (s .args .k) (entry s)
     (stores (done .press-session .last .1 .1 .0) (done .press-session .last .1 .1 .1 .0) (done .press-session .last .1 .1 .1 .1 .0)
     (done .press-session .last .1 .1 .1 .1 .1 .0))
@@ -107,5 +116,9 @@ press-spec = tie.close (tie.spec
     (λ c κs. search needs)  -- turned-down-requires-3
     (λ c. search needs) (λ c. search needs) (λ c. search needs) (λ c. search needs) (λ c. search needs)  -- same-length-11 .. same-length-15
     returns-3 newlines-now-requires show-requires
-    (λ c. search needs) (λ c. search needs) (λ c. search needs) (λ c. search needs) (λ c. search needs)  -- same-length-16 .. same-length-20
+    (λ c. let passed : tie.Else2 = search in done-by passed .press-session .kept .1 .1 .0)  -- same-length-16
+    (λ c. let passed : tie.Else2 = search in done-by passed .press-session .kept .1 .1 .1 .0)  -- same-length-17
+    (λ c. let passed : tie.Else2 = search in done-by passed .press-session .kept .1 .1 .1 .1 .0)  -- same-length-18
+    (λ c. let passed : tie.Else2 = search in done-by passed .press-session .kept .1 .1 .1 .1 .1 .0)  -- same-length-19
+    (λ c. search needs)  -- same-length-20
     returns-4)
