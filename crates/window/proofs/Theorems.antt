@@ -21,3 +21,4 @@ pub mod Boundary
 pub mod HostTerminal
 pub mod ShutOut
 pub mod RecallCalls
+pub mod CutCalls

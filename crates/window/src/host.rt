@@ -238,7 +238,8 @@ pub extern "C" fn chidukwore_open(
     side: &mut [u8],
     screen: &mut [u8],
 ) -> HostReply
-    ensures { λ q. ⌜ HostOpenPromise n rows columns (lent (now (text .entry)) (now (recall .entry)) (now (held .entry)) (now (side .entry)) (now (screen .entry)))
+    ensures { λ q. ⌜ HostOpenPromise n rows columns
+        (lent (now (text .entry)) (now (recall .entry)) (now (held .entry)) (now (side .entry)) (now (screen .entry)))
         (given q (lent (now (text .exit)) (now (recall .exit)) (now (held .exit)) (now (side .exit)) (now (screen .exit)))) ⌝ }
 {
     in_numbers(open(n, rows, columns, text, recall, held, side, screen))
@@ -258,7 +259,8 @@ pub extern "C" fn chidukwore_key(
     side: &mut [u8],
     screen: &mut [u8],
 ) -> HostReply
-    ensures { λ q. ⌜ HostKeyPromise n kind a b c (lent (now (text .entry)) (now (recall .entry)) (now (held .entry)) (now (side .entry)) (now (screen .entry)))
+    ensures { λ q. ⌜ HostKeyPromise n kind a b c
+        (lent (now (text .entry)) (now (recall .entry)) (now (held .entry)) (now (side .entry)) (now (screen .entry)))
         (given q (lent (now (text .exit)) (now (recall .exit)) (now (held .exit)) (now (side .exit)) (now (screen .exit)))) ⌝ }
 {
     let mode = n.mode;

@@ -36,7 +36,8 @@ pub calls-numbered : (map lastReply callRows ≡ map (λ row. row .reply) callRo
     × (map refusedReply refusedRows ≡ map (λ row. record { said = said (row .code) 0 0 0 0 0 0 0 0; back = row .handed }) refusedRows)
 unfolding every sameBytes begins part zeros counted move delete times passed splice nearest distance withLines passageTo newlines sinceAfter
     lines gapped paired ungap unpair soundGap soundPair lineBeginning lineEnding word documentEnd isAt soundKey inserted removed carried
-    function recalled onSide quoted withPattern searched found withReplacement exchanged substituted replaced markedHere cutTo pasted acted changeOf markThrough pressed fits bounded key
-    quarter sized plainOf lengthsOf storesOf editorOk virtualIn rowCells joined window visible policy firstRow lastRow tabled isSession
-    openedText opened shown finished keyed bytes noMark keyFrom hostOpened hostKeyed pressedOn lastReply refusedReply
+    function recalled onSide quoted withPattern searched found withReplacement exchanged substituted replaced markedHere cutTo pasted acted
+    changeOf markThrough pressed fits bounded key quarter sized plainOf lengthsOf storesOf editorOk virtualIn rowCells joined window visible
+    policy firstRow lastRow tabled isSession openedText opened shown finished keyed bytes noMark keyFrom hostOpened hostKeyed pressedOn
+    lastReply refusedReply
 calls-numbered = (refl, refl)

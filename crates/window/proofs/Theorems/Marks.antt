@@ -1,28 +1,28 @@
--- Mark and held text at the calls (02, M-101): every session has its mark within the document and a held pair with an empty half, and comes back
--- from the host's numbers as it was; MARK, CUT and PASTE get KEY in QUOTED; CUT, then PASTE at once, restores text and cursor.
-use mathlib.Core.Path.{_≡_, refl, ap, ap₂, subst⁻¹, _∙_}
-use mathlib.Core.Logic.{_↔_, ⊎-elim, _≢_}
+-- Mark and held text of sessions (02, M-101): the mark lies within the document and of the held pair one half is empty, in every session and after
+-- any keys; and every session comes back from the host's numbers as it was.
+use mathlib.Core.Path.{_≡_, sym, ap, subst⁻¹, transport, _∙_}
+use mathlib.Core.Logic.{⊎-elim}
 use mathlib.Core.Bool.{true, false≢true}
 use mathlib.Core.List.{List}
 use Prim.Native.Nat.{ℕ, _+_, _≤_}
 use native.Mathlib.Omega.{arith}
-use lib.ListN.{length}
 use borrow.Author.Tests.{leb-true}
 use Rattle.gap.proofs.Laws.Tests.{decided, clash}
 use Rattle.editor.specs.Rules.Marks.{markWithin}
-use Rattle.editor.specs.Rules.Bytes.{quarter, oneHalf, holdingSizes, plainOf, lengthsOf, editorOk}
+use Rattle.editor.specs.Rules.Bytes.{quarter, oneHalf, holdingSizes}
 use Rattle.editor.proofs.Laws.Session.{passed}
-use Rattle.window.specs.Words.{Marking, Unmarked, At, Session, Key}
-use Rattle.window.specs.Rules.Core.{Lent, Called, T, tabled, isSession, openedText, opened, keyed}
-use Rattle.window.specs.Rules.Terminal.{openedBench, typed}
-use Rattle.window.specs.Rules.Host.{noMark, sessionFrom, recordFrom}
-use Rattle.window.specs.Wording.Promise.{KeyPromise}
-use Rattle.window.specs.Wording.Demands.{OnSession}
-use Rattle.window.proofs.Laws.Views.{session-view}
-use Rattle.window.proofs.Laws.KeyCall.{session-sound}
 use Rattle.editor.proofs.Laws.Fitting.{fitting}
+use Rattle.window.specs.Words.{Marking, Unmarked, At, Session, Key}
+use Rattle.window.specs.Rules.Core.{Lent, T, tabled, isSession, openedText, opened, keyed}
+use Rattle.window.specs.Rules.Terminal.{openedBench, typed, openingView, viewed, picture, recordOf, storesWith}
+use Rattle.window.specs.Rules.Host.{noMark, sessionFrom, recordFrom}
+use Rattle.window.specs.Wording.Demands.{OnSession}
+use Rattle.window.proofs.Laws.Window.{length-window}
+use Rattle.window.proofs.Laws.Views.{view-tabled, view-session}
+use Rattle.window.proofs.Laws.KeyCall.{session-sound}
 use Rattle.window.proofs.Theorems.Refusals.{opening-done, key-accepted, key-leaves}
-use Rattle.window.proofs.Theorems.Sessions.{opened-tabled, opened-session, key-follows}
+use Rattle.window.proofs.Theorems.Sessions.{opening-view, opened-tabled, opened-session, key-follows}
+use Rattle.window.proofs.Theorems.DemandThree.{keys-good, keys-showing, opening-showing}
 use Rattle.window.proofs.Theorems.OverAndBack.{session-over}
 
 -- ---- Sessions
@@ -60,10 +60,30 @@ module _ (n H W : ℕ) (b : Lent) (accepts : opened n H W b .answer .code ≡ 0)
   unfolding openedText
   opening-on =
       let e = opening-done n H W b accepts in
-      record { fit = ap (λ o. tabled (o .session .frame .h) (o .session .frame .w) (opened n H W b .lent)) e ∙ opened-tabled n H W b accepts; ok = opened-session n H W b accepts }
+      record {
+        fit = ap (λ o. tabled (o .session .frame .h) (o .session .frame .w) (opened n H W b .lent)) e ∙ opened-tabled n H W b accepts;
+        ok = opened-session n H W b accepts;
+      }
 
   pub opening-numbered : ¬ (opened n H W b .session .lengths .mark ≡ At noMark)
   opening-numbered = mark-numbered (opened n H W b .session) (opened n H W b .lent) opening-on
+
+  -- After a good opening and any keys, refused ones skipped, record and stores are a session, so its mark lies within the document.
+  reached-on : (ks : List Key) → let o = typed ks (openedBench n H W b) .called in OnSession (o .session) (o .lent)
+  reached-on ks =
+      let size = T (b .stores) in
+      let start = openingView n H W b in
+      let good = opening-view n H W b accepts in
+      let shows = keys-showing size ks start (openedBench n H W b) good (opening-showing n H W b accepts) in
+      let v = viewed size ks start in
+      let here = keys-good size ks start good in
+      let on : OnSession (recordOf v) (storesWith size v (picture v)) =
+      record { fit = view-tabled size v here (picture v) (length-window _ _); ok = view-session size v here (picture v) (length-window _ _) } in
+      transport (λ i. OnSession (sym (shows .session) i) (sym (shows .lent) i)) on
+
+  pub mark-reached : (ks : List Key) → let o = typed ks (openedBench n H W b) .called in
+      markWithin (o .session .lengths .main .l + o .session .lengths .main .r) (o .session .lengths .mark) ≡ true
+  mark-reached ks = let o = typed ks (openedBench n H W b) .called in mark-within (o .session) (o .lent) (reached-on ks)
 
 module _ (s : Session) (k : Key) (b : Lent) where
   refused-numbered : ¬ (s .lengths .mark ≡ At noMark) → (keyed s k b .answer .code ≡ 0 → ⊥) → ¬ (keyed s k b .session .lengths .mark ≡ At noMark)

@@ -182,7 +182,8 @@ by-kind P p0 p1 p2 p3 p4 p5 p6 p7 p8 above (suc (suc (suc (suc (suc (suc zero)))
 by-kind P p0 p1 p2 p3 p4 p5 p6 p7 p8 above (suc (suc (suc (suc (suc (suc (suc zero))))))) = p7
 by-kind P p0 p1 p2 p3 p4 p5 p6 p7 p8 above (suc (suc (suc (suc (suc (suc (suc (suc zero)))))))) = p8
 by-kind P p0 p1 p2 p3 p4 p5 p6 p7 p8 above (suc (suc (suc (suc (suc (suc (suc (suc (suc kind))))))))) =
-    let high : 8 < suc (suc (suc (suc (suc (suc (suc (suc (suc kind)))))))) = omega arith in above (suc (suc (suc (suc (suc (suc (suc (suc (suc kind))))))))) (is-above _ high)
+    let high : 8 < suc (suc (suc (suc (suc (suc (suc (suc (suc kind)))))))) = omega arith in
+    above (suc (suc (suc (suc (suc (suc (suc (suc (suc kind))))))))) (is-above _ high)
 
 module _ {kind : ℕ} (above : Above kind) (a b c : ℕ) where
   above-none : keyFrom kind a b c ≡ none

@@ -210,4 +210,5 @@ module _ (s : Session) (k : Key) (b : Lent) where
   key-leaves bad =
       let p = held s (b .stores) in
       let did = pressed k p in
-      decision-leaves (tabled (s .frame .h) (s .frame .w) b) (isSession s (b .stores)) (soundKey (p .mode) k) (fits (T (b .stores)) quarter (did .state)) did bad
+      decision-leaves (tabled (s .frame .h) (s .frame .w) b) (isSession s (b .stores)) (soundKey (p .mode) k)
+      (fits (T (b .stores)) quarter (did .state)) did bad

@@ -48,9 +48,9 @@ computed =
 
 numbers : sameBytes computed (0 ∷ 1 ∷ 5 ∷ 3 ∷ 4 ∷ 0 ∷ []) ≡ true
 unfolding computed p0 p1 p2 every sameBytes part zeros counted bytes move times nearest distance passed withLines passageTo newlines
-    sinceAfter lines gapped paired ungap unpair soundGap soundPair lineBeginning word isAt soundKey carried function onSide acted changeOf markThrough pressed fits
-    bounded key quarter sized plainOf lengthsOf storesOf editorOk virtualIn rowCells joined window visible policy firstRow lastRow tabled
-    isSession openedText opened shown finished keyed markedAfter pressing moving outcome
+    sinceAfter lines gapped paired ungap unpair soundGap soundPair lineBeginning word isAt soundKey carried function onSide acted changeOf
+    markThrough pressed fits bounded key quarter sized plainOf lengthsOf storesOf editorOk virtualIn rowCells joined window visible policy
+    firstRow lastRow tabled isSession openedText opened shown finished keyed markedAfter pressing moving outcome
 numbers = refl
 
 fact : (i : ℕ) → getD computed i 0 ≡ getD (0 ∷ 1 ∷ 5 ∷ 3 ∷ 4 ∷ 0 ∷ []) i 0
@@ -154,8 +154,9 @@ plainly = picture (viewed (T (blank .stores)) (Insert 97 ∷ Insert 98 ∷ []) (
 
 shown-cells : (sameBytes (two .terminal) (97 ∷ 32 ∷ []) && sameBytes plainly (97 ∷ 98 ∷ [])) ≡ true
 unfolding blank begun one two every sameBytes part zeros counted splice nearest newlines sinceAfter lines gapped paired ungap unpair
-    soundGap soundPair soundKey inserted onSide acted changeOf markThrough pressed fits bounded key quarter sized plainOf lengthsOf storesOf editorOk virtualIn rowCells
-    joined window visible policy firstRow lastRow tabled isSession openedText opened shown finished keyed repaint viewed
+    soundGap soundPair soundKey inserted onSide acted changeOf markThrough pressed fits bounded key quarter sized plainOf lengthsOf storesOf
+    editorOk virtualIn rowCells joined window visible policy firstRow lastRow tabled isSession openedText opened shown finished keyed
+    repaint viewed
 shown-cells = refl
 
 pub editing-once-out : ¬ ((n : ℕ) → PressesWell (editingOnce n))
@@ -202,7 +203,8 @@ inventing-out steps well =
 -- Whatever they are made up from, where they keep the promise they are the distance.
 pub invented-distance : (steps : Session → Key → Lent → ℕ) → PressesWell (inventing steps) → (s : Session) (b : Lent) → OnSession s b
     → let p = held s (b .stores) in
-    (action : Action) (way : Direction) (place : Place) → ¬ Unsound (p .mode) (Function action way place) → (n : ℕ) → LeastMoves way (isAt place way) (textIn (p .mode) p) n → steps s (Function action way place) b ≡ n
+    (action : Action) (way : Direction) (place : Place) → ¬ Unsound (p .mode) (Function action way place)
+    → (n : ℕ) → LeastMoves way (isAt place way) (textIn (p .mode) p) n → steps s (Function action way place) b ≡ n
 invented-distance steps well s b on action way place good n least =
     let k = Function action way place in
     ap (λ report. report .steps) (steps-moved s b on (inventing steps s k b) action way place (well s k b) good .steps n .1 least .1)

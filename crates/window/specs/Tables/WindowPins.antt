@@ -1,5 +1,6 @@
 -- What document 01 says of the window, each sentence with its examples: they open a text on bytes and press keys, as the edges do.
-use Rattle.window.specs.Words.{List, [], _∷_, _++_, Bool, ℕ, _-_, length, Character, LineBeginning, Document, Key, Insert, Quote, Mark, Cut, Main, Unmarked}
+use Rattle.window.specs.Words.{List, [], _∷_, _++_, Bool, ℕ, _-_, length, Character, LineBeginning, Document}
+use Rattle.window.specs.Words.{Key, Insert, Quote, Mark, Cut, Main, Unmarked}
 use Prim.Native.String.{String}
 use Rattle.gap.specs.Rules.Sequence.{zeros}
 use Rattle.gap.specs.Rules.Doc.{Doc, content}
