@@ -1,14 +1,12 @@
 -- What document 01 and request M-101 say of opening, refusals and sessions, on records and stores of any kind.
-use mathlib.Core.List.{map}
 use Prim.Native.String.{String}
 use lib.ListN.{replicate}
-use Rattle.window.specs.Words.{List, [], _∷_, _++_, Bool, true, false, _&&_, ℕ, _-_, eqb, length, Right, Move, Character}
+use Rattle.window.specs.Words.{List, [], _∷_, _++_, Bool, false, _&&_, ℕ, _-_, eqb, length, Right, Move, Character}
 use Rattle.window.specs.Words.{Key, Insert, Function, Recall, Quote, Mark, Cut, Paste, Main, Quoted, Marking, Unmarked, At, Lengths, Session}
 use Rattle.gap.specs.Rules.Sequence.{sameBytes, zeros}
 use Rattle.gap.specs.Rules.Strings.{bytes}
 use Rattle.gap.specs.Tables.Sentence.{Sentence, sentence}
 use Rattle.gap.specs.Tables.Written.{stored, isBytes, isStore, sameBool}
-use Rattle.editor.specs.Tables.KeyExamples.{sameMode}
 use Rattle.editor.specs.Tables.SessionPins.{sizes, lengths, areLengths}
 use Rattle.window.specs.Rules.Core.{Lent, Called, opened, keyed}
 
