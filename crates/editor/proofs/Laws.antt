@@ -8,8 +8,9 @@ pub mod Sides
 pub mod SideEdits
 pub mod Passages
 pub mod States
+pub mod MarkedStates
+pub mod Changes
 pub mod Marks
-pub mod Followed
 pub mod Following
 pub mod Holding
 pub mod MatchTests

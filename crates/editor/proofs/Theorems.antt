@@ -6,4 +6,5 @@ pub mod Recall
 pub mod LinesCrossed
 pub mod LeftTexts
 pub mod Marks
+pub mod Cuts
 pub mod Pins

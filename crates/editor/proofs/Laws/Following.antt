@@ -23,7 +23,8 @@ use Rattle.editor.specs.Wording.Marks.{nothing, going, inDocument, excha
 use Rattle.editor.proofs.Laws.Session.{measured}
 use Rattle.editor.proofs.Laws.Encoding.{session-encoded}
 use Rattle.editor.proofs.Laws.Keeps.{acted-sound, fits-acted}
-use Rattle.editor.proofs.Laws.Marks.{change-within, cut-mark, acted-mark-within}
+use Rattle.editor.proofs.Laws.Changes.{change-within}
+use Rattle.editor.proofs.Laws.Marks.{cut-mark, acted-mark-within}
 
 -- A change in numbers.
 abbrev inNumbers : Change → Exchange

@@ -26,7 +26,8 @@ use Rattle.editor.specs.Wording.Marks.{markedAt, heldIn, heldReply}
 use Rattle.editor.proofs.Laws.Session.{measured, passed}
 use Rattle.editor.proofs.Laws.Encoding.{session-encoded}
 use Rattle.editor.proofs.Laws.Fitting.{sizes}
-use Rattle.editor.proofs.Laws.States.{sound-fits, fits-marked, cut-sound}
+use Rattle.editor.proofs.Laws.States.{sound-fits}
+use Rattle.editor.proofs.Laws.MarkedStates.{fits-marked, cut-sound}
 
 -- The test of a mark, without a sum that could wrap.
 pub mark-before : (m l r : ℕ) → m ≤ l → true ≡ leb m (l + r)

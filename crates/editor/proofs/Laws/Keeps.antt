@@ -9,7 +9,8 @@ use Rattle.editor.proofs.Laws.Outcomes.{accepted}
 use Rattle.editor.proofs.Laws.Sides.{inserted-sound, recalled-sound}
 use Rattle.editor.proofs.Laws.States.{side-sound, on-side-sound, on-side-fits, function-sound, quoted-sound, found-sound}
 use Rattle.editor.specs.Rules.Bytes.{SoundTexts, SoundPlain}
-use Rattle.editor.proofs.Laws.States.{with-replacement-sound, substituted-sound, marked-sound, fits-marked, cut-sound, pasted-sound}
+use Rattle.editor.proofs.Laws.States.{with-replacement-sound, substituted-sound}
+use Rattle.editor.proofs.Laws.MarkedStates.{marked-sound, fits-marked, cut-sound, pasted-sound}
 use Rattle.editor.proofs.Laws.Marks.{mark-kept}
 
 -- What a sound key does keeps the texts a session's where the finished ones fit.

@@ -13,15 +13,14 @@ use Rattle.gap.proofs.Laws.Tests.{and-left, and-right, and-both}
 use Rattle.gap.proofs.Laws.Sequence.{every-left}
 use Rattle.gap.proofs.Laws.Compared.{begins-fits}
 use Rattle.gap.proofs.Laws.Holdable.{empty-holdable, content-fits, splice-holdable, left-holdable, right-holdable}
-use Rattle.editor.specs.Words.{Direction, Reached, Action, Move, Delete, Place, Mode, Main, Quoted, Marking, Unmarked, At}
+use Rattle.editor.specs.Words.{Direction, Action, Move, Place, Mode, Main, Quoted}
 use Rattle.editor.specs.Rules.Places.{isAt}
 use Rattle.editor.specs.Rules.Passages.{passageTo}
-use Rattle.editor.specs.Rules.Marks.{wayTo, farTo}
-use Rattle.editor.specs.Rules.Plain.{Side, emptySide, Plain, holding, quiet, rang, Did, reporting}
+use Rattle.editor.specs.Rules.Plain.{Side, emptySide, Plain, quiet, rang, Did, reporting}
 use Rattle.editor.specs.Rules.Bytes.{alone, sizesOf, unquoted, SoundTexts}
 use Rattle.editor.specs.Rules.Keys.{function, sideOf, withSide, onSide, otherMode, quoted, withPattern, matches, searched, found}
-use Rattle.editor.specs.Rules.Keys.{withReplacement, exchanged, substituted, recalled, withMark, withHolding, cutTo, pasted, fits}
-use Rattle.editor.proofs.Laws.Sides.{SoundSide, carried-sound, recalled-sound}
+use Rattle.editor.specs.Rules.Keys.{withReplacement, exchanged, substituted, fits}
+use Rattle.editor.proofs.Laws.Sides.{SoundSide, carried-sound}
 
 -- How long the text of the mode's side may be.
 abbrev pub limit : ℕ → ℕ → Mode → ℕ
@@ -106,7 +105,7 @@ unfolding fits
 sound-fits T Q p sound =
     and-both (le-leb _ _ (content-fits T (p .main .text) (sound .text))) (le-leb _ _ (content-fits Q (p .quoted .text) (sound .quotation)))
 
-fits-side : (T Q : ℕ) (mode : Mode) (p : Plain) → fits T Q p ≡ true → length (content (sideOf mode p .text)) ≤ limit T Q mode
+pub fits-side : (T Q : ℕ) (mode : Mode) (p : Plain) → fits T Q p ≡ true → length (content (sideOf mode p .text)) ≤ limit T Q mode
 unfolding fits
 fits-side T Q Main p e = leb-true _ _ (and-left _ _ e)
 fits-side T Q Quoted p e = leb-true _ _ (and-right (leb (length (content (p .main .text))) T) _ e)
@@ -223,76 +222,3 @@ substituted-sound T Q p sound room = go (matches (p .pattern) (p .main .text)) r
     go true match room =
         with-main-sound T Q (exchanged p) p sound (exchanged-sound T Q p sound match (fits-side T Q Main _ room))
     go false match room = sound
-
--- ---- The mark and the held text
-
--- Another mark leaves the texts, and their room.
-pub marked-sound : (T Q : ℕ) (mark : Marking) (p : Plain) → SoundTexts T Q p → SoundTexts T Q (withMark mark p)
-marked-sound T Q mark p sound =
-    record {
-      text = sound .text;
-      recall = sound .recall;
-      quotation = sound .quotation;
-      itsRecall = sound .itsRecall;
-      pattern = sound .pattern;
-      replacement = sound .replacement;
-      held = sound .held;
-      half = sound .half;
-      itsHalf = sound .itsHalf;
-      heldHalf = sound .heldHalf;
-      mode = sound .mode;
-    }
-
-pub fits-marked : (T Q : ℕ) (mark : Marking) (p : Plain) → fits T Q (withMark mark p) ≡ fits T Q p
-unfolding fits
-fits-marked T Q mark p = refl
-
--- The document with its held pair is a sound side, and a sound state with another such side is sound.
-pub holding-sound : (T Q : ℕ) (p : Plain) → SoundTexts T Q p → SoundSide T (holding p)
-holding-sound T Q p sound = record { text = sound .text; recall = sound .held; half = sound .heldHalf }
-
-pub with-holding-sound : (T Q : ℕ) (s : Side) (p : Plain) → SoundTexts T Q p → SoundSide T s → SoundTexts T Q (withHolding s p)
-with-holding-sound T Q s p sound side =
-    record {
-      text = side .text;
-      recall = sound .recall;
-      quotation = sound .quotation;
-      itsRecall = sound .itsRecall;
-      pattern = sound .pattern;
-      replacement = sound .replacement;
-      held = side .recall;
-      half = sound .half;
-      itsHalf = sound .itsHalf;
-      heldHalf = side .half;
-      mode = sound .mode;
-    }
-
-pub cut-sound : (T Q : ℕ) (mark : Marking) (p : Plain) → SoundTexts T Q p → SoundTexts T Q (cutTo mark p .state)
-unfolding cutTo
-cut-sound T Q Unmarked p sound = sound
-cut-sound T Q (At m) p sound =
-    let l = length (p .main .text .l) in
-    marked-sound T Q Unmarked _
-    (with-holding-sound T Q _ p sound
-    (carried-sound T (holding p) (holding-sound T Q p sound) Delete (wayTo m l) (Reached (farTo m l) 0)))
-
-pub pasted-sound : (T Q : ℕ) (p : Plain) → SoundTexts T Q p → fits T Q (pasted p .state) ≡ true → SoundTexts T Q (pasted p .state)
-unfolding pasted
-pasted-sound T Q p sound room =
-    with-holding-sound T Q _ p sound
-    (recalled-sound T (holding p) (holding-sound T Q p sound) (fits-side T Q Main (withHolding (recalled (holding p) .state) p) room))
-
--- Room after a substitution does not ask for the held text.
-pub substituted-unheld : (T Q : ℕ) (held : Doc) (p : Plain)
-    → fits T Q (substituted (withHolding (record { text = p .main .text; recall = held }) p) .state) ≡ fits T Q (substituted p .state)
-unfolding substituted exchanged fits
-substituted-unheld T Q held p = go (matches (p .pattern) (p .main .text))
-  where
-    q : Plain
-    q = withHolding (record { text = p .main .text; recall = held }) p
-
-    go : (test : Bool)
-        → fits T Q (cond test (reporting quiet (withSide Main (exchanged q) q)) (reporting rang q) .state)
-        ≡ fits T Q (cond test (reporting quiet (withSide Main (exchanged p) p)) (reporting rang p) .state)
-    go true = refl
-    go false = refl

@@ -3,18 +3,16 @@
 use mathlib.Core.Path.{_≡_, refl, sym, ap, subst, subst⁻¹, _∙_}
 use mathlib.Core.Logic.{_↔_}
 use mathlib.Core.Bool.{true, false≢true}
-use mathlib.Core.List.{[], _∷_, append-nil}
+use mathlib.Core.List.{[], _∷_}
 use Prim.Native.Nat.{ℕ, _≤_}
-use native.Mathlib.Nat.{sub-zero}
 use native.Mathlib.Omega.{arith}
-use lib.ListN.{length, take-append-drop}
-use lib.Seq.{take-length}
+use lib.ListN.{length}
 use Rattle.gap.specs.Rules.Sequence.{every}
-use Rattle.gap.specs.Rules.Doc.{Doc, empty, content, move, delete, times, passed, splice, removed}
+use Rattle.gap.specs.Rules.Doc.{Doc, content, move, delete, times, passed, splice, removed}
 use Rattle.gap.specs.Rules.Lines.{newlines}
 use Rattle.gap.specs.Rules.Nearest.{nearest, distance}
 use Rattle.gap.proofs.Laws.Tests.{clash}
-use Rattle.gap.proofs.Laws.Doc.{same-texts, deletions-left, deletions-right, insertions, content-moves}
+use Rattle.gap.proofs.Laws.Doc.{insertions}
 use Rattle.editor.specs.Words.{Direction, Left, Right, Passage, Reached, Nowhere, Action, Move, Delete, Place, Character, Mode, Main, Quoted, Marking}
 use Rattle.editor.specs.Words.{Function, Recall, Find}
 use Rattle.editor.specs.Rules.Refusals.{FULL}
@@ -27,20 +25,13 @@ use Rattle.editor.specs.Rules.Keys.{withMark, ofDocument, changeOf, acte
 use Rattle.editor.specs.Rules.Bytes.{SoundPlain}
 use Rattle.editor.specs.Wording.Recalling.{withRecall, recallPutIn}
 use Rattle.editor.proofs.Laws.Outcomes.{accepted}
-use Rattle.editor.proofs.Laws.States.{side-with, same-document, on-side-twice, sound-fits, fits-marked}
-use Rattle.editor.proofs.Laws.Followed.{side-marked, on-side-mark, on-side-marked, through-nothing}
+use Rattle.editor.proofs.Laws.States.{side-with, same-document, on-side-twice, sound-fits}
+use Rattle.editor.proofs.Laws.MarkedStates.{fits-marked}
+use Rattle.editor.proofs.Laws.MarkedStates.{side-marked, on-side-mark, on-side-marked}
+use Rattle.editor.proofs.Laws.Changes.{put-back, moved-content}
+use Rattle.editor.proofs.Laws.Marks.{through-nothing}
 use Rattle.editor.proofs.Theorems.Refusals.{key-unsound, refused-full, done-otherwise}
 use Rattle.editor.proofs.Theorems.Sessions.{opening-sound, keys-keep}
-
--- What n deletions removed, put around the cursor again, gives the text back.
-put-back : (way : Direction) (n : ℕ) (d : Doc) → splice 0 0 (removed way n d) (times (delete way) n d) ≡ d
-unfolding removed passed splice
-put-back Left n d =
-    ap (λ e. splice 0 0 (removed Left n d) e) (deletions-left n d) ∙ insertions (removed Left n d) (splice n 0 empty d)
-    ∙ same-texts (rw (append-nil, take-append-drop)) refl
-put-back Right n d =
-    ap (λ e. splice 0 0 (removed Right n d) e) (deletions-right n d) ∙ insertions (removed Right n d) (splice 0 n empty d)
-    ∙ same-texts (simp (append-nil, sub-zero, take-length)) (take-append-drop n (d .r))
 
 -- ---- The bell
 
@@ -213,12 +204,6 @@ restores-not-always claim =
     let sound = keys-keep 1 1 (Function Delete Right Character ∷ []) (opening (97 ∷ [])) (opening-sound 1 1 1 (97 ∷ []) (omega arith) refl) in
     omega (arith, ap (λ o. length (content (after taken o .main .text))) (claim 1 1 Left Character taken (reporting rang taken) sound refl))
 
--- A move of one side keeps its content, wherever its search ends.
-moved-keeps : (way : Direction) (passage : Passage) (s : Side) → content (carried Move way passage s .state .text) ≡ content (s .text)
-unfolding carried
-moved-keeps way (Reached n lines) s = content-moves way n (s .text)
-moved-keeps way Nowhere s = refl
-
 -- Moves keep the content of the text that they act on.
 pub move-keeps : (T Q : ℕ) (way : Direction) (place : Place) (p : Plain) (did : Did Plain)
     → key T Q (Function Move way place) p ≡ done did
@@ -228,7 +213,7 @@ move-keeps T Q way place p did e =
     let (ok, room, same) = accepted T Q (Function Move way place) p did .0 e in
     let s = sideOf (p .mode) p in
     rw (← same, side-marked (p .mode) _ (withSide (p .mode) (function Move way place s .state) p), side-with (p .mode) (function Move way place s .state) p)
-    (moved-keeps way (passageTo way (isAt place way) (s .text)) s)
+    (moved-content way (passageTo way (isAt place way) (s .text)) s)
 
 -- Searches keep that of the document.
 pub find-keeps : (T Q : ℕ) (way : Direction) (p : Plain) (did : Did Plain) → key T Q (Find way) p ≡ done did
@@ -238,5 +223,5 @@ find-keeps T Q way p did e =
     let (ok, room, same) = accepted T Q (Find way) p did .0 e in
     let q = withPattern (p .mode) p in
     rw (← same)
-    (moved-keeps way (passageTo way (matches (q .pattern)) (q .main .text)) (q .main)
+    (moved-content way (passageTo way (matches (q .pattern)) (q .main .text)) (q .main)
     ∙ ap (λ s. content (s .text)) (same-document (p .mode) p))

@@ -1,7 +1,7 @@
 -- Refusals of the plain editor (01, table of refusals): KEY and FULL exactly when the table says, and no others. Then FULL key by
 -- key: room that a key gives back is free for it.
 use mathlib.Core.Path.{_≡_, refl}
-use mathlib.Core.Logic.{_⊎_, _↔_, Iff·trans, Iff·and}
+use mathlib.Core.Logic.{_⊎_, inl, inr, ⊎-elim, _↔_, Iff·trans, Iff·and}
 use mathlib.Core.Bool.{true, false}
 use mathlib.Core.List.{[], _∷_}
 use Prim.Native.Nat.{ℕ, _+_, _-_, _<_}
@@ -16,11 +16,12 @@ use Rattle.editor.specs.Rules.Refusals.{KEY, FULL}
 use Rattle.editor.specs.Rules.Plain.{Side, Plain, Did, refused, done}
 use Rattle.editor.specs.Rules.Keys.{Unsound, notAllowed, leftToEnding, rightToBeginning, markInQuoted, cutInQuoted, pasteInQuoted, Exceeds}
 use Rattle.editor.specs.Rules.Keys.{soundFunction, soundKey, inserted, recalled, sideOf, onSide}
-use Rattle.editor.specs.Rules.Keys.{matches, withReplacement, substituted, replaced, acted, pressed, key}
+use Rattle.editor.specs.Rules.Keys.{matches, withReplacement, substituted, replaced, markedHere, pasted, acted, pressed, key}
 use Rattle.editor.proofs.Laws.Room.{holds, fits-not, fits-within, keeps-within, on-side-exceeds, length-put, substituted-exceeds}
 use Rattle.editor.proofs.Laws.Outcomes.{key-refused, full-refused, accepted, refusal-number}
 use Rattle.editor.specs.Rules.Bytes.{SoundTexts}
 use Rattle.editor.proofs.Laws.Keeps.{texts-kept}
+use Rattle.editor.proofs.Laws.MarkedStates.{marked-sound, cut-sound}
 use Rattle.editor.proofs.Laws.States.{limit, function-sound, quoted-sound, found-sound, with-replacement-sound}
 
 unsound-function : (action : Action) (way : Direction) (place : Place) → soundFunction action way place ≡ false
@@ -106,6 +107,15 @@ module _ (T Q : ℕ) (p : Plain) (sound : SoundTexts T Q p) where
   unfolding acted
   find-never-full way = never-full (Find way) (found-sound T Q way p sound)
 
+  -- MARK and CUT never either. (02, M-101: FULL for PASTE alone.)
+  pub mark-never-full : ¬ (key T Q Mark p ≡ refused FULL)
+  unfolding acted markedHere
+  mark-never-full = never-full Mark (marked-sound T Q _ p sound)
+
+  pub cut-never-full : ¬ (key T Q Cut p ≡ refused FULL)
+  unfolding acted
+  cut-never-full = never-full Cut (cut-sound T Q (p .mark) p sound)
+
   -- An edit that puts x around the cursor wants room for x.
   put-full : let s = sideOf (p .mode) p in
       (x : Doc) (edit : Side → Did Side) → edit s .state .text ≡ splice 0 0 x (s .text)
@@ -123,6 +133,15 @@ module _ (T Q : ℕ) (p : Plain) (sound : SoundTexts T Q p) where
       (key T Q Recall p ≡ refused FULL) ↔ (limit T Q (p .mode) < length (content (s .text)) + length (content (s .recall)))
   unfolding pressed acted soundKey recalled
   recall-full = Iff·trans (full-when T Q Recall p refl) (put-full (sideOf (p .mode) p .recall) recalled refl)
+
+  -- PASTE wants room for the whole held pair, in MAIN; in QUOTED it is no key.
+  pub paste-full : p .mode ≡ Main → (key T Q Paste p ≡ refused FULL) ↔ (T < length (content (p .main .text)) + length (content (p .held)))
+  unfolding pressed acted soundKey pasted recalled
+  paste-full main =
+      Iff·trans (full-when T Q Paste p (rw main)) (
+        ⊎-elim (λ over. rw (length-put (p .held) (p .main .text)) at over) (λ over. absurd (keeps-within T Q p sound (inr over))),
+        λ over. inl (rw (length-put (p .held) (p .main .text)) over),
+      )
 
   -- REPLACE gives the pattern's room back before the replacement takes its own. In QUOTED the quotation is the replacement.
   pub replace-full : let q = withReplacement (p .mode) p in

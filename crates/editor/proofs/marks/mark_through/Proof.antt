@@ -3,7 +3,7 @@ use mathlib.Core.Path.{sym}
 use native.Mathlib.Omega.{arith}
 use borrow.Author.Needs.{needs}
 use Rattle.editor.specs.Rules.Marks.{markThrough}
-use Rattle.editor.proofs.Laws.Followed.{through-stays, through-gone, through-end, through-behind}
+use Rattle.editor.proofs.Laws.Marks.{through-stays, through-gone, through-end, through-behind}
 use Rattle.editor.proofs.Laws.Following.{position-within}
 use Rattle.editor.proofs.marks.mark_through.Statement.{statement}
 use Rattle.editor.proofs.marks.mark_through.Tie as tie
@@ -34,8 +34,8 @@ add-if3 c = let start : tie.Start = search in omega (arith, start .pre .before, 
 
 returns-4 : tie.Need-returns-4
 returns-4 c =
-    let at : tie.After-mark = search in let one : tie.Else1 = search in
-    rw (at .mark .given .1) (sym (through-end _ _ _ _ (one .if1 .left) (c .if3 .taken)))
+    let at : tie.After-mark = search in
+    rw (at .mark .given .1) (sym (through-end _ _ _ _ (c .if3 .taken)))
 
 add-t9 : tie.Need-add-t9
 add-t9 c =

@@ -8,7 +8,7 @@ use Rattle.editor.specs.Words.{Main}
 use Rattle.gap.specs.Rules.Layout.{unpair}
 use Rattle.editor.specs.Rules.Bytes.{quarter, plainOf}
 use Rattle.editor.specs.Wording.Promise.{stores}
-use Rattle.editor.proofs.Laws.States.{substituted-unheld}
+use Rattle.editor.proofs.Laws.MarkedStates.{substituted-unheld}
 use Rattle.editor.proofs.Laws.Replies.{on-side}
 use Rattle.editor.proofs.Laws.Fitting.{fitting}
 use Rattle.editor.proofs.Laws.FindReplace.{Exchangeable, exchangeable, substitute-rings, pattern-dropped, substitute-done}
