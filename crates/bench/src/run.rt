@@ -24,9 +24,9 @@ ghost use Rattle.gap.specs.Rules.Sequence.{part, patch};
 ghost use Rattle.gap.specs.Wording.Written.{Wrote};
 ghost use Rattle.window.specs.Wording.Calls.{lent};
 ghost use Rattle.bench.specs.declared.Heading.the-variants.{Headed};
-ghost use Rattle.bench.specs.Rules.Print.{block, Printable};
+ghost use Rattle.bench.specs.Rules.Print.{block};
 ghost use Rattle.bench.specs.Rules.Run.{unlessLarge, beginning, screenSize, openingTurn, nextTurn};
-ghost use Rattle.bench.specs.Wording.Turns.{stateOf, Answered, Does, Onward};
+ghost use Rattle.bench.specs.Wording.Turns.{stateOf, Printable, Answered, Does, Onward};
 
 // The most bytes that a script may have, and the largest store that it may ask for.
 const LONGEST_INPUT: usize = 8192;
