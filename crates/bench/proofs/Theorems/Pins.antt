@@ -17,7 +17,7 @@ use Rattle.editor.specs.Rules.Bytes.{quarter}
 use Rattle.window.specs.declared.Answer.{Answer}
 use Rattle.window.specs.Rules.Core.{rowsAndColumns}
 use Rattle.bench.specs.Words.{Right, Move, LineEnding, Header, Headed, Broken, Named, Unnamed}
-use Rattle.bench.specs.Rules.Names.{nameOf, combinations, functionOf, entryOf, functionNamed, keyNamed}
+use Rattle.bench.specs.Rules.Names.{nameOf, combinations, functionOf, entryOf, functionNamed, markNamed, keyNamed}
 use Rattle.bench.specs.Rules.Script.{headingOf}
 use Rattle.bench.specs.Rules.Print.{rowsOf, acceptedBlock, refusedBlock, block, scriptLine}
 use Rattle.bench.specs.Rules.Run.{unlessLarge, beginning, laidOut, fresh}
@@ -26,11 +26,11 @@ use Rattle.bench.specs.Tables.Blocks.{blockPins}
 
 -- 01, the bench program: keys. Each of these words names its key, and those of the second list name none.
 pub names-pinned : map (λ n. keyNamed (bytes (n .name))) (functionNames ++ otherNames) ≡ map (λ n. Named (n .key)) (functionNames ++ otherNames)
-unfolding every sameBytes begins bytes nearest valueAfter isNumber numberOf combinations functionNamed keyNamed
+unfolding every sameBytes begins bytes nearest valueAfter isNumber numberOf combinations functionNamed markNamed keyNamed
 names-pinned = refl
 
 pub no-names-pinned : map (λ name. keyNamed (bytes name)) noNames ≡ map (λ name. Unnamed) noNames
-unfolding every sameBytes begins bytes nearest valueAfter isNumber numberOf combinations functionNamed keyNamed
+unfolding every sameBytes begins bytes nearest valueAfter isNumber numberOf combinations functionNamed markNamed keyNamed
 no-names-pinned = refl
 
 -- 01, plain editor: all 20 stand in the table, in this order.
@@ -66,7 +66,7 @@ store-limit h = (λ small. rw (le-leb (h .store) 4096 small), λ large. rw (lt-l
 
 -- The stores that are lent, all zeros, as the header asks; no screen where rows or columns are not as tabled. (DECISIONS A17.)
 pub stores-lent : (h : Header)
-    → (fresh h .stores ≡ record { text = zeros (h .store); recall = zeros (h .store); side = zeros 1024 })
+    → (fresh h .stores ≡ record { text = zeros (h .store); recall = zeros (h .store); held = zeros (h .store); side = zeros 1024 })
     × (rowsAndColumns (h .rows) (h .columns) ≡ true → fresh h .screen ≡ zeros (h .rows * h .columns))
     × (rowsAndColumns (h .rows) (h .columns) ≡ false → fresh h .screen ≡ [])
 unfolding quarter zeros fresh
