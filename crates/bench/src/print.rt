@@ -9,7 +9,8 @@ ghost use Prim.Native.Nat.{_+_, _*_, _≤_};
 ghost use lib.ListN.{length};
 ghost use Rattle.gap.specs.Rules.Fields.{entry};
 ghost use Rattle.gap.specs.Wording.Written.{Wrote};
-ghost use Rattle.bench.specs.Rules.Print.{rowsOf, acceptedBlock, refusedBlock, scriptLine, Printable};
+ghost use Rattle.bench.specs.Rules.Print.{rowsOf, acceptedBlock, refusedBlock, scriptLine};
+ghost use Rattle.bench.specs.Wording.Turns.{Printable};
 
 // Two entries.
 fn put_two(word: &[u8], n: usize, other: &[u8], m: usize, out: &mut [u8], at: usize) -> usize

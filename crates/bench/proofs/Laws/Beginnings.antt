@@ -44,11 +44,12 @@ small (Headed g) h e =
     let same : g ≡ h = cc in
     (known .1, subst (λ x. x .store ≤ 4096) same (leb-true (g .store) 4096 (known .0)))
 
-pub begun : (input : List ℕ) (h : Header) → Headed h ≡ beginning input → (h .at + h .length < length input) × (h .store ≤ 4096)
+pub begun-as : (input : List ℕ) (h : Header) → Headed h ≡ beginning input → (headingOf input ≡ Headed h) × (h .store ≤ 4096)
 unfolding beginning
-begun input h e =
-    let known = small (headingOf input) h (unbroken (leb (length input) 8192) (unlessLarge (headingOf input)) h e .1) in
-    (headed-inside input (known .0), known .1)
+begun-as input h e = small (headingOf input) h (unbroken (leb (length input) 8192) (unlessLarge (headingOf input)) h e .1)
+
+pub begun : (input : List ℕ) (h : Header) → Headed h ≡ beginning input → (h .at + h .length < length input) × (h .store ≤ 4096)
+begun input h e = let known = begun-as input h e in (headed-inside input (known .0), known .1)
 
 -- The screen that is lent.
 pub no-screen : (h w : ℕ) {ok : Bool} → ok ≡ rowsAndColumns h w → ok ≡ false → (0 ≡ screenSize h w) × (0 ≤ 16384)

@@ -15,7 +15,8 @@ use Rattle.window.specs.declared.Answer.{Answer as Said}
 use Rattle.window.specs.Rules.Core.{Lent, Called, tabled, opened, keyed}
 use Rattle.window.proofs.Laws.Views.{tabled-facts}
 use Rattle.window.proofs.Theorems.Refusals.{opening-accepted, key-accepted}
-use Rattle.bench.specs.Rules.Print.{acceptedBlock, refusedBlock, block, Printable}
+use Rattle.bench.specs.Rules.Print.{acceptedBlock, refusedBlock, block}
+use Rattle.bench.specs.Wording.Turns.{Printable}
 
 module _ (h w : ℕ) (a : Said) (screen : List ℕ) {n : ℕ} {old new : List ℕ} where
   pub block-accepted : a .code ≤ 0 → Wrote 0 (acceptedBlock h w a screen) old n new

@@ -19,7 +19,8 @@ use Rattle.gap.proofs.Laws.Runs.{part-lent}
 use Rattle.gap.proofs.Laws.Writers.{wrote-none, then, wrote-length}
 use Rattle.window.proofs.Laws.Paint.{row-fits}
 use Rattle.window.specs.declared.Answer.{Answer}
-use Rattle.bench.specs.Rules.Print.{rowsOf, acceptedBlock, Printable}
+use Rattle.bench.specs.Rules.Print.{rowsOf, acceptedBlock}
+use Rattle.bench.specs.Wording.Turns.{Printable}
 
 -- A word, cells and a newline, one behind the other, are a row.
 pub row-wrote : {at cells-at end next : ℕ} {cells old s t new : List ℕ} → Wrote at (bytes "line=") old cells-at s

@@ -1,17 +1,23 @@
 -- The definitions give each name, block and limit of document 01's bench program.
-use mathlib.Core.Path.{_≡_, refl}
+use mathlib.Core.Path.{_≡_, refl, ap}
 use mathlib.Core.List.{List, [], _∷_, _++_, map}
-use Prim.Native.Nat.{ℕ, _≤_, _<_}
+use mathlib.Core.Bool.{true, false}
+use Prim.Native.Nat.{ℕ, _*_, _≤_, _<_}
+use native.Mathlib.Omega.{arith}
 use lib.ListN.{length}
-use borrow.Author.Tests.{le-leb, lt-leb}
+use borrow.Author.Tests.{le-leb, lt-leb, eq-eqb, ne-eqb}
 use Rattle.gap.specs.Rules.Sequence.{every, sameBytes, begins, part, patch, zeros}
 use Rattle.gap.specs.Rules.Strings.{bytes}
 use Rattle.gap.specs.Rules.Nearest.{nearest}
 use Rattle.gap.specs.Rules.Decimal.{valueAfter, isNumber, numberOf, digitsIn, decimal}
 use Rattle.gap.specs.Rules.Fields.{entry}
 use Rattle.gap.specs.Tables.Sentence.{allOf, broken, itself}
+use Rattle.gap.proofs.Laws.Tests.{cond-true, cond-false}
+use Rattle.editor.specs.Rules.Bytes.{quarter}
+use Rattle.window.specs.declared.Answer.{Answer}
+use Rattle.window.specs.Rules.Core.{rowsAndColumns}
 use Rattle.bench.specs.Words.{Right, Move, LineEnding, Header, Headed, Broken, Named, Unnamed}
-use Rattle.bench.specs.Rules.Names.{nameOf, combinations, functionOf, entryOf, functionNamed, keyNamed}
+use Rattle.bench.specs.Rules.Names.{nameOf, combinations, functionOf, entryOf, functionNamed, markNamed, keyNamed}
 use Rattle.bench.specs.Rules.Script.{headingOf}
 use Rattle.bench.specs.Rules.Print.{rowsOf, acceptedBlock, refusedBlock, block, scriptLine}
 use Rattle.bench.specs.Rules.Run.{unlessLarge, beginning, laidOut, fresh}
@@ -20,11 +26,11 @@ use Rattle.bench.specs.Tables.Blocks.{blockPins}
 
 -- 01, the bench program: keys. Each of these words names its key, and those of the second list name none.
 pub names-pinned : map (λ n. keyNamed (bytes (n .name))) (functionNames ++ otherNames) ≡ map (λ n. Named (n .key)) (functionNames ++ otherNames)
-unfolding every sameBytes begins bytes nearest valueAfter isNumber numberOf combinations functionNamed keyNamed
+unfolding every sameBytes begins bytes nearest valueAfter isNumber numberOf combinations functionNamed markNamed keyNamed
 names-pinned = refl
 
 pub no-names-pinned : map (λ name. keyNamed (bytes name)) noNames ≡ map (λ name. Unnamed) noNames
-unfolding every sameBytes begins bytes nearest valueAfter isNumber numberOf combinations functionNamed keyNamed
+unfolding every sameBytes begins bytes nearest valueAfter isNumber numberOf combinations functionNamed markNamed keyNamed
 no-names-pinned = refl
 
 -- 01, plain editor: all 20 stand in the table, in this order.
@@ -43,6 +49,12 @@ pub blocks-pinned : broken itself blockPins ≡ []
 unfolding sameBytes bytes digitsIn decimal entry rowsOf acceptedBlock refusedBlock block scriptLine allOf broken
 blocks-pinned = refl
 
+-- The full block is that of code 0 alone, whatever else the answer says.
+pub block-by-code : (H W : ℕ) (a : Answer) (screen : List ℕ)
+    → (a .code ≡ 0 → block H W a screen ≡ acceptedBlock H W a screen) × (0 < a .code → block H W a screen ≡ refusedBlock (a .code) (a .place))
+unfolding block
+block-by-code H W a screen = (λ none. rw (eq-eqb (a .code) 0 none), λ some. rw (ne-eqb (a .code) 0 (λ e. omega arith)))
+
 -- 01, the bench program: input is at most 8,192 bytes, and store at most 4,096.
 pub input-limit : (input : List ℕ)
     → (length input ≤ 8192 → beginning input ≡ unlessLarge (headingOf input)) × (8192 < length input → beginning input ≡ Broken 0)
@@ -51,6 +63,14 @@ input-limit input = (λ short. rw (le-leb (length input) 8192 short), λ long. r
 
 pub store-limit : (h : Header) → (h .store ≤ 4096 → unlessLarge (Headed h) ≡ Headed h) × (4096 < h .store → unlessLarge (Headed h) ≡ Broken 0)
 store-limit h = (λ small. rw (le-leb (h .store) 4096 small), λ large. rw (lt-leb (h .store) 4096 large))
+
+-- The stores that are lent, all zeros, as the header asks; no screen where rows or columns are not as tabled. (DECISIONS A17.)
+pub stores-lent : (h : Header)
+    → (fresh h .stores ≡ record { text = zeros (h .store); recall = zeros (h .store); held = zeros (h .store); side = zeros 1024 })
+    × (rowsAndColumns (h .rows) (h .columns) ≡ true → fresh h .screen ≡ zeros (h .rows * h .columns))
+    × (rowsAndColumns (h .rows) (h .columns) ≡ false → fresh h .screen ≡ [])
+unfolding quarter zeros fresh
+stores-lent h = (refl, λ good. ap zeros (cond-true _ _ good), λ bad. ap zeros (cond-false _ _ bad))
 
 -- 01, the bench program: n raw bytes. They alone go into the store, as many of them as it has.
 abbrev laid : ℕ → ℕ → List ℕ

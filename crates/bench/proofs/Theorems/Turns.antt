@@ -1,5 +1,5 @@
--- Turns: the bound on their number leaves none out, so that with more of them allowed the program prints the same; and the promise of a
--- turn leaves nothing open.
+-- Turns: the bound on their number leaves none out, so that with more of them allowed the program prints the same; which are the last; and
+-- the promise of a turn leaves nothing open.
 use mathlib.Core.Path.{_≡_, refl, sym, ap, _∙_}
 use mathlib.Core.Logic.{⊎-elim}
 use mathlib.Core.Bool.{true, false, cond, false≢true}
@@ -8,15 +8,20 @@ use Prim.Native.Nat.{ℕ, zero, suc, _+_, _-_, _≤_, _<_}
 use native.Mathlib.Nat.{zero-add, suc-add}
 use native.Mathlib.Omega.{arith}
 use lib.ListN.{length}
-use Rattle.bench.specs.Words.{Header, Headed, Reading, Pressed, Finished, Unknown}
+use borrow.Author.Tests.{ne-eqb}
+use Rattle.bench.specs.Words.{Key, Header, Headed, Reading, Pressed, Finished, Unknown}
 use Rattle.bench.specs.Rules.Script.{headingOf, readingAt}
+use Rattle.bench.specs.Rules.Print.{scriptLine}
+use Rattle.gap.specs.Rules.Fields.{lineNumber}
 use Rattle.gap.proofs.Laws.Tests.{decided}
 use Rattle.gap.proofs.Laws.Writers.{one-written}
-use Rattle.window.specs.Rules.Core.{Lent}
+use Rattle.window.specs.declared.Session.{Session}
+use Rattle.window.specs.Rules.Core.{Lent, opened}
 use Rattle.bench.specs.declared.Turn.{Turn}
 use Rattle.bench.specs.Wording.Turns.{stateOf, Does}
-use Rattle.bench.specs.Rules.Run.{State, Turned, openingTurn, pressedTurn, read, nextTurn, turns}
+use Rattle.bench.specs.Rules.Run.{beginning, State, Turned, laidOut, openingTurn, pressedTurn, read, nextTurn, turns, fresh, printedFrom, output}
 use Rattle.bench.proofs.Laws.Scripts.{pressed-goes-on, headed-inside}
+use Rattle.bench.proofs.Laws.Beginnings.{begun-as}
 
 -- Where a turn goes on, its next line starts further on, and within the input or at its end.
 onward : (input : List ℕ) (s : State) (r : Reading) → readingAt input (s .at) ≡ r → read input s r .state .going ≡ true
@@ -71,6 +76,36 @@ all-turns k input h b e =
     let inside = headed-inside input e in
     turns-enough (length input) k input (openingTurn h input b)
     (record { inside = λ going. omega (arith, inside); left = λ going. omega (arith, inside) })
+
+-- So the program prints every turn, however many are allowed.
+pub all-printed : (k : ℕ) (input : List ℕ) (h : Header) → beginning input ≡ Headed h
+    → output input ≡ turns (length input + k) input (openingTurn h input (fresh h))
+unfolding output
+all-printed k input h e = ap (printedFrom input) e ∙ sym (all-turns k input h (fresh h) (begun-as input h (sym e) .0))
+
+-- 01, the bench program: a refused opening ends the program, whatever refuses it, and a refused key does not.
+pub refused-opening-ends : (n : ℕ) (h : Header) (input : List ℕ) (b : Lent)
+    → 0 < opened (h .length) (h .rows) (h .columns) (laidOut h input b) .answer .code
+    → turns n input (openingTurn h input b) ≡ openingTurn h input b .printed
+unfolding openingTurn
+refused-opening-ends n h input b refused =
+    none-more n input (openingTurn h input b)
+    (ne-eqb (opened (h .length) (h .rows) (h .columns) (laidOut h input b) .answer .code) 0 (λ e. omega (arith, e, refused)))
+
+pub key-goes-on : (s : Session) (k : Key) (next : ℕ) (b : Lent) → pressedTurn s k next b .state .going ≡ true
+unfolding pressedTurn
+key-goes-on s k next b = refl
+
+-- It ends at the end of the input, where it prints nothing, and at a line that cannot be read, whose number it prints. All else is left as it
+-- was.
+abbrev ended : State → State
+ended s = record { going = false; at = s .at; session = s .session; lent = s .lent }
+
+pub last-turn : (input : List ℕ) (s : State)
+    → (readingAt input (s .at) ≡ Finished → nextTurn input s ≡ record { printed = []; state = ended s })
+    × (readingAt input (s .at) ≡ Unknown → nextTurn input s ≡ record { printed = scriptLine (lineNumber input (s .at)); state = ended s })
+unfolding nextTurn
+last-turn input s = (ap (read input s), ap (read input s))
 
 -- Two turns of the code that do the same turn of the definitions are the same: what is left, the stores, and what is printed.
 pub one-turn : {turned : Turned} {t u : Turn} {b c : Lent} {old new other : List ℕ} → Does turned t b old new → Does turned u c old other

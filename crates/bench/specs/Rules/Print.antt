@@ -1,7 +1,5 @@
 -- What is printed. (01, the bench program: blocks.)
-use mathlib.Core.Path.{_≡_}
-use Prim.Native.Nat.{_≤_}
-use Rattle.bench.specs.Words.{List, [], _∷_, _++_, cond, ℕ, zero, suc, _*_, eqb, length, take, drop}
+use Rattle.bench.specs.Words.{List, [], _∷_, _++_, cond, ℕ, zero, suc, eqb, take, drop}
 use Rattle.gap.specs.Rules.Strings.{bytes}
 use Rattle.gap.specs.Rules.Lines.{newline}
 use Rattle.gap.specs.Rules.Numbers.{bit}
@@ -33,9 +31,3 @@ block H W a screen = cond (eqb (a .code) 0) (acceptedBlock H W a screen) (refuse
 
 unfoldable pub scriptLine : ℕ → List ℕ
 scriptLine n = entry (bytes "script=") n
-
--- A screen that can be printed: as many rows and columns as tabled.
-pub record Printable (h w : ℕ) (screen : List ℕ) : Type 0 where
-  pub rows : h ≤ 64
-  pub columns : w ≤ 256
-  pub long : length screen ≡ h * w

@@ -14,6 +14,12 @@ use Rattle.bench.specs.Rules.Run.{State, Turned, screenSize}
 abbrev pub stateOf : Turn → Lent → State
 stateOf t b = record { going = t .going; at = t .at; session = t .session; lent = b }
 
+-- A screen that can be printed: as many rows and columns as tabled.
+pub record Printable (h w : ℕ) (screen : List ℕ) : Type 0 where
+  pub rows : h ≤ 64
+  pub columns : w ≤ 256
+  pub long : length screen ≡ h * w
+
 -- A call's block is printed, and its record handed on.
 pub record Answered (going : Bool) (at H W : ℕ) (r : Reply) (screen old : List ℕ) (t : Turn) (new : List ℕ) : Type 0 where
   pub turn : t ≡ record { going = going; at = at; session = r .session; printed = t .printed }
@@ -33,5 +39,6 @@ pub record Onward (t : Turn) (end : ℕ) (u : Turn) : Type 0 where
 pub record AsAsked (h : Header) (b : Lent) : Type 0 where
   pub text : length (b .stores .text) ≡ h .store
   pub recall : length (b .stores .recall) ≡ h .store
+  pub held : length (b .stores .held) ≡ h .store
   pub side : length (b .stores .side) ≡ 4 * quarter
   pub screen : length (b .screen) ≡ screenSize (h .rows) (h .columns)

@@ -10,7 +10,7 @@ answered-requires : tie.Need-answered-requires
 answered-requires c κs =
     let after-press : tie.After-press = search in let after-reading : tie.After-reading = search in
     let start : tie.Start = search in
-    (keyed-printable _ _ _ _ (after-press .press .ensures) _ (after-press .press .kept .1 .1 .1 .1 .1 .0), start .pre .1)
+    (keyed-printable _ _ _ _ (after-press .press .ensures) _ (after-press .press .kept .1 .1 .1 .1 .1 .1 .0), start .pre .1)
 
 returns : tie.Need-returns
 returns c =
@@ -51,7 +51,7 @@ next-turn-spec = tie.close (tie.spec
     (λ c κs. search needs)  -- put-script-requires
     (λ c κs. search needs)  -- stop-requires-2
     (λ c. search needs) (λ c. search needs) (λ c. search needs) (λ c. search needs)  -- same-length .. same-length-4
-    (λ c. search needs)  -- same-length-5
+    (λ c. search needs) (λ c. search needs)  -- same-length-5 .. same-length-6
     returns returns-2
-    (λ c. search needs)  -- same-length-6
+    (λ c. search needs)  -- same-length-7
     returns-3)

@@ -9,7 +9,7 @@ answered-requires : tie.Need-answered-requires
 answered-requires c κs =
     let after-open : tie.After-open = search in let after-lay-out : tie.After-lay-out = search in
     let start : tie.Start = search in
-    (opened-printable _ _ _ _ _ (after-open .«open» .ensures) _ (after-open .«open» .kept .1 .1 .1 .1 .1 .1 .0), start .pre .1)
+    (opened-printable _ _ _ _ _ (after-open .«open» .ensures) _ (after-open .«open» .kept .1 .1 .1 .1 .1 .1 .1 .0), start .pre .1)
 
 same-length : tie.Need-same-length
 same-length c =
@@ -27,5 +27,6 @@ opening-spec = tie.close (tie.spec
     (λ c κs. search needs)  -- lay-out-requires
     (λ c κs. search needs)  -- open-requires
     answered-requires same-length
-    (λ c. search needs) (λ c. search needs) (λ c. search needs) (λ c. search needs)  -- same-length-2 .. same-length-5
+    (λ c. search needs) (λ c. search needs) (λ c. search needs)  -- same-length-2 .. same-length-4
+    (λ c. search needs) (λ c. search needs)  -- same-length-5 .. same-length-6
     returns)
