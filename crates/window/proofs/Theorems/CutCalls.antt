@@ -8,12 +8,13 @@ use Rattle.editor.specs.Rules.Refusals.{KEY}
 use Rattle.editor.specs.Rules.Plain.{Plain, quiet, reporting, done}
 use Rattle.editor.specs.Rules.Keys.{soundKey, markedHere, acted, pressed, fits, key, after, Unsound, markInQuoted, cutInQuoted, pasteInQuoted}
 use Rattle.editor.specs.Rules.Bytes.{quarter}
-use Rattle.editor.proofs.Laws.States.{marked-sound, cut-sound, sound-fits}
+use Rattle.editor.proofs.Laws.States.{sound-fits}
+use Rattle.editor.proofs.Laws.MarkedStates.{marked-sound, cut-sound}
 use Rattle.editor.proofs.Laws.Keeps.{texts-kept}
 use Rattle.editor.proofs.Laws.Room.{keeps-within}
 use Rattle.editor.proofs.Laws.Outcomes.{accepted}
 use Rattle.editor.proofs.Theorems.Refusals.{key-unsound}
-use Rattle.editor.proofs.Theorems.Marks.{leaving, cut-deletes, cut-then-paste}
+use Rattle.editor.proofs.Theorems.Cuts.{leaving, cut-deletes, cut-then-paste}
 use Rattle.window.specs.Words.{true, Main, Quoted, At, Session, Key, Mark, Cut, Paste}
 use Rattle.window.specs.Rules.Core.{Lent, Called, T, held, turnedDown, finished, shown}
 use Rattle.window.specs.Wording.Promise.{KeyPromise}

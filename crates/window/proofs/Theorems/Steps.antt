@@ -13,7 +13,7 @@ use Rattle.editor.specs.Rules.Keys.{soundKey, inserted, function, recalled, sid
 use Rattle.editor.specs.Rules.Keys.{replaced, markedHere, pasted, acted, pressed, key, after, Unsound}
 use Rattle.editor.specs.Rules.Bytes.{quarter, SoundTexts}
 use Rattle.editor.proofs.Laws.States.{side-with, same-document}
-use Rattle.editor.proofs.Laws.Followed.{side-marked}
+use Rattle.editor.proofs.Laws.MarkedStates.{side-marked}
 use Rattle.editor.proofs.Theorems.LinesCrossed.{lines-within}
 use Rattle.editor.proofs.Theorems.Refusals.{key-unsound, refused-full, function-never-full, find-never-full}
 use Rattle.window.specs.Words.{Direction, Action, Move, Place, Mode, Main, Session, Key, Insert, Function, Recall, Quote, Find, Replace, Mark, Paste}
