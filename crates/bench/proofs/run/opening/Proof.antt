@@ -5,10 +5,14 @@ use borrow.Author.Needs.{needs}
 use Rattle.bench.proofs.run.opening.Statement.{statement}
 use Rattle.bench.proofs.run.opening.Tie as tie
 
+-- The start, which lies further behind than `search` looks.
+abbrev begun : tie.After-lay-out → tie.Start
+begun c = search
+
 answered-requires : tie.Need-answered-requires
 answered-requires c κs =
     let after-open : tie.After-open = search in let after-lay-out : tie.After-lay-out = search in
-    let start : tie.Start = search in
+    let start = begun after-lay-out in
     (opened-printable _ _ _ _ _ (after-open .«open» .ensures) _ (after-open .«open» .kept .1 .1 .1 .1 .1 .1 .1 .0), start .pre .1)
 
 same-length : tie.Need-same-length
@@ -18,7 +22,7 @@ same-length c =
 returns : tie.Need-returns
 returns c =
     let after-open : tie.After-open = search in let after-lay-out : tie.After-lay-out = search in
-    let start : tie.Start = search in
+    let start = begun after-lay-out in
     opening-does (start .args .h) _ _ (after-lay-out .lay-out .ensures) (after-open .«open» .ensures) (c .before .before .answered .ensures)
 
 pub opening-spec : {M : Type 1} → statement M
