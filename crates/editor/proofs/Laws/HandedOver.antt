@@ -156,7 +156,8 @@ module _ (Q : ℕ) (n : Lengths) (b : Stores) (sound : Sound Q n b) where
         hr = same i .hr;
         mark = same i .mark;
       } in
-      handed-holds (2 * Q) (withPattern Quoted p) m side (record { texts = with-pattern-sound T Q Quoted p (encoded .sound .texts); mark = encoded .sound .mark }) (lengths ∙ sym e)
+      handed-holds (2 * Q) (withPattern Quoted p) m side (record { texts = with-pattern-sound T Q Quoted p (encoded .sound .texts); mark = encoded .sound .mark })
+      (lengths ∙ sym e)
       (pattern-given T Q p (encoded .sound .texts)) here
 
   replacement-in : (mode : Mode) {m : Lengths} {side : List ℕ} → n .mode ≡ mode → m ≡ replacementTaken mode n
@@ -176,7 +177,8 @@ module _ (Q : ℕ) (n : Lengths) (b : Stores) (sound : Sound Q n b) where
         hr = same i .hr;
         mark = same i .mark;
       } in
-      handed-holds (3 * Q) (withReplacement Quoted p) m side (record { texts = with-replacement-sound T Q Quoted p (encoded .sound .texts); mark = encoded .sound .mark }) (lengths ∙ sym e)
+      handed-holds (3 * Q) (withReplacement Quoted p) m side
+      (record { texts = with-replacement-sound T Q Quoted p (encoded .sound .texts); mark = encoded .sound .mark }) (lengths ∙ sym e)
       (replacement-given T Q p (encoded .sound .texts)) here
 
   pub pattern-holds : {m : Lengths} {side : List ℕ} → m ≡ patternTaken (n .mode) n → side ≡ handed Q (n .mode) (n .quoted) (2 * Q) (b .side)

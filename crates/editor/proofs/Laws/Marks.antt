@@ -7,10 +7,12 @@ use borrow.Author.Tests.{le-leb, leb-true, leb-false, ltb-false, lt-leb, le-ltb,
 use lib.Dec.{eqb, leb, ltb}
 use lib.ListN.{length, drop, length-append}
 use Rattle.gap.proofs.Laws.Holdable.{length-splice}
-use Rattle.editor.specs.Words.{Direction, Mode, Main, Quoted, Key, Insert, Function, Recall, Quote, Find, Replace, Mark, Cut, Paste, Marking, Unmarked, At}
+use Rattle.editor.specs.Words.{Direction, Mode, Main, Quoted, Marking, Unmarked, At}
+use Rattle.editor.specs.Words.{Key, Insert, Function, Recall, Quote, Find, Replace, Mark, Cut, Paste}
 use Rattle.editor.specs.Rules.Marks.{markThrough, markWithin}
 use Rattle.editor.specs.Rules.Plain.{Plain, quiet, rang, reporting, within}
-use Rattle.editor.specs.Rules.Keys.{inserted, function, recalled, withSide, quoted, withPattern, matches, searched, found, withReplacement, exchanged, substituted, replaced, markedHere, cutTo, pasted, acted, changeOf, pressed}
+use Rattle.editor.specs.Rules.Keys.{inserted, function, recalled, withSide, quoted, withPattern, matches, searched, found}
+use Rattle.editor.specs.Rules.Keys.{withReplacement, exchanged, substituted, replaced, markedHere, cutTo, pasted, acted, changeOf, pressed}
 use mathlib.Core.Logic.{⊎-elim}
 use Rattle.gap.proofs.Laws.Tests.{decided}
 use Rattle.editor.proofs.Laws.MarkedStates.{on-side-mark}

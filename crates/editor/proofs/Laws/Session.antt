@@ -55,7 +55,8 @@ module _ (Q : ℕ) (b : Stores) where
   pub measured-sized : Measured Q b → sized Q b ≡ true
   unfolding sized
   measured-sized m =
-      and-both (and-both (le-leb _ _ (m .low)) (le-leb _ _ (m .high))) (and-both (and-both (eq-eqb _ _ (m .recall)) (eq-eqb _ _ (m .held))) (eq-eqb _ _ (m .side)))
+      and-both (and-both (le-leb _ _ (m .low)) (le-leb _ _ (m .high)))
+      (and-both (and-both (eq-eqb _ _ (m .recall)) (eq-eqb _ _ (m .held))) (eq-eqb _ _ (m .side)))
 
 module _ (Q : ℕ) (n : Lengths) (b : Stores) where
   pub passed : editorOk Q n b ≡ true → Passed Q n b

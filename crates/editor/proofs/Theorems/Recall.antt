@@ -177,8 +177,11 @@ module _ (T Q : ℕ) (way : Direction) (place : Place) (p : Plain) (did : Did Pl
       let recall = sideOf (p .mode) (after .state) .recall in
       let back = recalled-marked mark way place p (rw (← same) at some) in
       rw (← same, side-marked (p .mode) mark (after .state))
-      (accepted T Q Recall q (reporting quiet (withMark (recallPutIn q .mark) (withRecall recall p))) .1
-      (refl, ap (λ d. fits T Q (d .state)) back ∙ (fits-marked T Q _ (withRecall recall p) ∙ (fits-with-recall T Q recall p ∙ sound-fits T Q p (sound .texts))), back))
+      (accepted T Q Recall q (reporting quiet (withMark (recallPutIn q .mark) (withRecall recall p))) .1 (
+        refl,
+        ap (λ d. fits T Q (d .state)) back ∙ (fits-marked T Q _ (withRecall recall p) ∙ (fits-with-recall T Q recall p ∙ sound-fits T Q p (sound .texts))),
+        back,
+      ))
 
   -- With the bell it does what it would have done before the deletion: the older recall text goes in, or it is refused as FULL, which is
   -- exactly when the finished text would not fit.

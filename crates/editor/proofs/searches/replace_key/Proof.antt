@@ -77,7 +77,8 @@ substitute-requires c κs =
     let fits : tie.After-exchange-fits = search in let taken : tie.After-replacement-taken = search in
     let asked : tie.After-text-begins = search in let start = begun asked in
     let holds = replacement-holds quarter _ _ (start .pre .1) (taken .replacement-taken .ensures) (handed .hand-quotation .ensures) in
-    let (match, room) = replace-substitutes quarter _ _ (start .pre .1) (known asked _ (start .pre .1)) _ (taken .replacement-taken .ensures) (fits .exchange-fits .ensures)
+    let (match, room) = replace-substitutes quarter _ _ (start .pre .1) (known asked _ (start .pre .1)) _ (taken .replacement-taken .ensures)
+    (fits .exchange-fits .ensures)
     (not-false _ (tested .if1 .left)) holds in
     (start .pre .0, holds .sound, record { known = match; room = room })
 
@@ -91,7 +92,8 @@ returns-2 c =
     let holds = replacement-holds quarter _ _ sound (taken .replacement-taken .ensures) (handed .hand-quotation .ensures) in
     done .substitute .ensures held (holds .sound)
     ∙ replace-done quarter _ _ sound holds
-    (replace-fits quarter _ _ sound (known asked held sound) _ (taken .replacement-taken .ensures) (fits .exchange-fits .ensures) (not-false _ (tested .if1 .left)))
+    (replace-fits quarter _ _ sound (known asked held sound) _ (taken .replacement-taken .ensures) (fits .exchange-fits .ensures)
+    (not-false _ (tested .if1 .left)))
 
 pub replace-key-spec : {M : Type 1} → statement M
 replace-key-spec = tie.close (tie.spec

@@ -6,7 +6,8 @@ use Rattle.editor.proofs.stores.open_stores.Tie as tie
 
 returns : tie.Need-returns
 returns c =
-    let lengths : tie.After-opening-lengths = search in let side : tie.After-clear3 = search in let held : tie.After-clear2 = search in let recall : tie.After-clear = search in
+    let lengths : tie.After-opening-lengths = search in let side : tie.After-clear3 = search in
+    let held : tie.After-clear2 = search in let recall : tie.After-clear = search in
     let text : tie.After-open-text = search in let start : tie.Start = search in
     stores-opened _ _ (start .pre .0) (start .pre .1) (lengths .opening-lengths .ensures) (text .open-text .ensures)
     (recall .clear .ensures) (held .clear2 .ensures) (side .clear3 .ensures)
