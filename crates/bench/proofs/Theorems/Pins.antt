@@ -1,5 +1,5 @@
 -- The definitions give each name, block and limit of document 01's bench program.
-use mathlib.Core.Path.{_≡_, refl, ap}
+use mathlib.Core.Path.{_≡_, refl, ap, _∙_}
 use mathlib.Core.List.{List, [], _∷_, _++_, map}
 use mathlib.Core.Bool.{true, false}
 use Prim.Native.Nat.{ℕ, _*_, _≤_, _<_}
@@ -10,17 +10,18 @@ use Rattle.gap.specs.Rules.Sequence.{every, sameBytes, begins, part, patch, zer
 use Rattle.gap.specs.Rules.Strings.{bytes}
 use Rattle.gap.specs.Rules.Nearest.{nearest}
 use Rattle.gap.specs.Rules.Decimal.{valueAfter, isNumber, numberOf, digitsIn, decimal}
-use Rattle.gap.specs.Rules.Fields.{entry}
+use Rattle.gap.specs.Rules.Fields.{nextAt, headerAt, entry}
 use Rattle.gap.specs.Tables.Sentence.{allOf, broken, itself}
 use Rattle.gap.proofs.Laws.Tests.{cond-true, cond-false}
 use Rattle.editor.specs.Rules.Bytes.{quarter}
 use Rattle.window.specs.declared.Answer.{Answer}
 use Rattle.window.specs.Rules.Core.{rowsAndColumns}
-use Rattle.bench.specs.Words.{Right, Move, LineEnding, Header, Headed, Broken, Named, Unnamed}
+use Rattle.bench.specs.Words.{Right, Move, LineEnding, Number, Read, Unreadable, Header, Heading, Headed, Broken}
+use Rattle.bench.specs.Words.{Named, Unnamed, Entry}
 use Rattle.bench.specs.Rules.Names.{nameOf, combinations, functionOf, entryOf, functionNamed, markNamed, keyNamed}
-use Rattle.bench.specs.Rules.Script.{headingOf}
+use Rattle.bench.specs.Rules.Script.{whenRead, textThere, headingOf}
 use Rattle.bench.specs.Rules.Print.{rowsOf, acceptedBlock, refusedBlock, block, scriptLine}
-use Rattle.bench.specs.Rules.Run.{unlessLarge, beginning, laidOut, fresh}
+use Rattle.bench.specs.Rules.Run.{unlessLarge, beginning, laidOut, fresh, printedFrom, output}
 use Rattle.bench.specs.Tables.KeyNames.{functionNames, otherNames, noNames}
 use Rattle.bench.specs.Tables.Blocks.{blockPins}
 
@@ -38,11 +39,18 @@ pub combinations-pinned : (map functionOf combinations ≡ map (λ n. n .key) fu
 unfolding bytes combinations
 combinations-pinned = (refl, refl)
 
--- A row of that table: the host's numbers, 19 letters, and zeros behind them.
-pub entry-pinned : entryOf (record { action = Move; direction = Right; place = LineEnding })
-    ≡ record { action = 0; direction = 1; place = 3; length = 19; name = bytes "move-right-line-end" ++ (0 ∷ 0 ∷ 0 ∷ 0 ∷ 0 ∷ []) }
-unfolding zeros bytes
-entry-pinned = refl
+-- A row of that table: the host's numbers, 19 letters, and zeros behind them. The numbers of every row.
+abbrev numbers : Entry → ℕ × ℕ × ℕ
+numbers e = (e .action, e .direction, e .place)
+
+abbrev fives : ℕ → ℕ → List (ℕ × ℕ × ℕ)
+fives action way = (action, way, 0) ∷ (action, way, 1) ∷ (action, way, 2) ∷ (action, way, 3) ∷ (action, way, 4) ∷ []
+
+pub entry-pinned : (entryOf (record { action = Move; direction = Right; place = LineEnding })
+    ≡ record { action = 0; direction = 1; place = 3; length = 19; name = bytes "move-right-line-end" ++ (0 ∷ 0 ∷ 0 ∷ 0 ∷ 0 ∷ []) })
+    × (map (λ c. numbers (entryOf c)) combinations ≡ fives 0 0 ++ (fives 0 1 ++ (fives 1 0 ++ fives 1 1)))
+unfolding zeros bytes combinations
+entry-pinned = (refl, refl)
 
 -- 01, the bench program: blocks.
 pub blocks-pinned : broken itself blockPins ≡ []
@@ -55,6 +63,35 @@ pub block-by-code : (H W : ℕ) (a : Answer) (screen : List ℕ)
 unfolding block
 block-by-code H W a screen = (λ none. rw (eq-eqb (a .code) 0 none), λ some. rw (ne-eqb (a .code) 0 (λ e. omega arith)))
 
+-- 01, the bench program: four header lines with numbers of at most 5 digits, then the text. The first that is not there is named, 4 for the text.
+told : (line : ℕ) (then : ℕ → Heading) {a b : Number} → a ≡ b → whenRead line a then ≡ whenRead line b then
+told line then e = ap (λ number. whenRead line number then) e
+
+pub header-lines : (s : List ℕ) (rows columns store n : ℕ)
+    → let second = nextAt s 0 in let third = nextAt s second in let fourth = nextAt s third in let at = nextAt s fourth in
+    (headerAt (bytes "rows=") 5 s 0 ≡ Unreadable → headingOf s ≡ Broken 1)
+    × (headerAt (bytes "rows=") 5 s 0 ≡ Read rows
+    → (headerAt (bytes "cols=") 5 s second ≡ Unreadable → headingOf s ≡ Broken 2)
+    × (headerAt (bytes "cols=") 5 s second ≡ Read columns
+    → (headerAt (bytes "store=") 5 s third ≡ Unreadable → headingOf s ≡ Broken 3)
+    × (headerAt (bytes "store=") 5 s third ≡ Read store
+    → (headerAt (bytes "text=") 5 s fourth ≡ Unreadable → headingOf s ≡ Broken 4)
+    × (headerAt (bytes "text=") 5 s fourth ≡ Read n
+    → (textThere s at n ≡ false → headingOf s ≡ Broken 4)
+    × (textThere s at n ≡ true → headingOf s ≡ Headed (record { rows = rows; columns = columns; store = store; length = n; at = at }))))))
+unfolding headingOf
+header-lines s rows columns store n = (
+  told 1 _,
+  λ one. (
+    λ e. told 1 _ one ∙ told 2 _ e,
+    λ two. (
+      λ e. told 1 _ one ∙ told 2 _ two ∙ told 3 _ e,
+      λ three. let before = told 1 _ one ∙ told 2 _ two ∙ told 3 _ three in
+          (λ e. before ∙ told 4 _ e, λ four. (λ e. before ∙ told 4 _ four ∙ cond-false _ _ e, λ e. before ∙ told 4 _ four ∙ cond-true _ _ e)),
+    ),
+  ),
+)
+
 -- 01, the bench program: input is at most 8,192 bytes, and store at most 4,096.
 pub input-limit : (input : List ℕ)
     → (length input ≤ 8192 → beginning input ≡ unlessLarge (headingOf input)) × (8192 < length input → beginning input ≡ Broken 0)
@@ -63,6 +100,14 @@ input-limit input = (λ short. rw (le-leb (length input) 8192 short), λ long. r
 
 pub store-limit : (h : Header) → (h .store ≤ 4096 → unlessLarge (Headed h) ≡ Headed h) × (4096 < h .store → unlessLarge (Headed h) ≡ Broken 0)
 store-limit h = (λ small. rw (le-leb (h .store) 4096 small), λ large. rw (lt-leb (h .store) 4096 large))
+
+-- Where the header is not read, the line's number is all that is printed; so it is with 0 where the input is too long. (DECISIONS A11.)
+pub broken-printed : (input : List ℕ) (line : ℕ) → beginning input ≡ Broken line → output input ≡ scriptLine line
+unfolding output
+broken-printed input line e = ap (printedFrom input) e
+
+pub long-printed : (input : List ℕ) → 8192 < length input → output input ≡ scriptLine 0
+long-printed input long = broken-printed input 0 (input-limit input .1 long)
 
 -- The stores that are lent, all zeros, as the header asks; no screen where rows or columns are not as tabled. (DECISIONS A17.)
 pub stores-lent : (h : Header)

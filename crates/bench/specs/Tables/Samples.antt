@@ -59,18 +59,25 @@ samples =
     ∷ prints "rows=0\ncols=2\nstore=4097\ntext=2\nab\n" "script=0\n"
     -- A4: five digits are a number, six are not.
     ∷ prints "rows=99999\ncols=99999\nstore=4\ntext=0\n\n" "code=1\nplace=0\n"
+    ∷ prints "rows=1\ncols=2\nstore=99999\ntext=0\n\n" "script=0\n"
+    ∷ prints "rows=100000\ncols=2\nstore=4\ntext=0\n\n" "script=1\n"
+    ∷ prints "rows=1\ncols=100000\nstore=4\ntext=0\n\n" "script=2\n"
     ∷ prints "rows=1\ncols=2\nstore=100000\ntext=0\n\n" "script=3\n"
     -- A5: another byte in the place of the newline behind the text.
     ∷ prints "rows=1\ncols=2\nstore=4\ntext=0\nkey=quote\n" "script=4\n"
     -- A6: a header line without its newline; no input at all.
     ∷ prints "rows=1" "script=1\n"
     ∷ prints "" "script=1\n"
+    ∷ prints "rows=1\ncols=2" "script=2\n"
+    ∷ prints "rows=1\ncols=2\nstore=4" "script=3\n"
     ∷ prints "rows=1\ncols=2\nstore=4\ntext=0" "script=4\n"
     -- A8: an empty line is no key line, the last one too; the end of the input is none.
     ∷ onDeck "\nkey=quote\n" "script=7\n"
     ∷ onDeck "key=insert-9\n\n" "code=5\nplace=0\nscript=8\n"
     -- A key line begins with `key=`, whatever names a key behind it.
     ∷ onDeck "kez=quote\n" "script=7\n"
+    ∷ onDeck "key:quote\n" "script=7\n"
+    ∷ onDeck "quote\n" "script=7\n"
     -- The last key line may lack its newline.
     ∷ onDeck "key=insert-200" "code=5\nplace=0\n"
     -- A9: an insert's number.
