@@ -15,7 +15,7 @@ use Rattle.gap.specs.Tables.Sentence.{allOf, broken, itself}
 use Rattle.gap.proofs.Laws.Tests.{cond-true, cond-false}
 use Rattle.editor.specs.Rules.Bytes.{quarter}
 use Rattle.window.specs.declared.Answer.{Answer}
-use Rattle.window.specs.Rules.Core.{rowsAndColumns}
+use Rattle.window.specs.Rules.Core.{Lent, rowsAndColumns}
 use Rattle.bench.specs.Words.{Right, Move, LineEnding, Number, Read, Unreadable, Header, Heading, Headed, Broken}
 use Rattle.bench.specs.Words.{Named, Unnamed, Entry}
 use Rattle.bench.specs.Rules.Names.{nameOf, combinations, functionOf, entryOf, functionNamed, markNamed, keyNamed}
@@ -124,3 +124,10 @@ laid T n = let h : Header = record { rows = 1; columns = 1; store = T; length = 
 pub text-laid-out : (laid 4 2 ≡ 97 ∷ 98 ∷ 0 ∷ 0 ∷ []) × (laid 2 4 ≡ 97 ∷ 98 ∷ [])
 unfolding part patch zeros bytes fresh
 text-laid-out = (refl, refl)
+
+-- All else that is lent is left as it was.
+pub text-alone : (h : Header) (input : List ℕ) (b : Lent)
+    → (laidOut h input b .stores .recall ≡ b .stores .recall)
+    × (laidOut h input b .stores .side ≡ b .stores .side)
+    × (laidOut h input b .screen ≡ b .screen)
+text-alone h input b = (refl, refl, refl)
