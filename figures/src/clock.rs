@@ -41,9 +41,9 @@ fn batch(scene: &Scene) -> Figures {
         }
         black_box(record);
     });
-    let hand = pressed(scene, &mut stores, |mut record, Stores { text, recall, side, screen }| {
+    let hand = pressed(scene, &mut stores, |mut record, stores| {
         for &key in &scene.keys {
-            record = hand::key(black_box(record), black_box(key), text, recall, side, screen).record;
+            record = hand::key(black_box(record), black_box(key), stores.lent()).record;
         }
         black_box(record);
     });

@@ -8,5 +8,6 @@ fn pass(s: &[u8]) -> bool {
 }
 
 pub fn over(stores: &Stores) -> bool {
-    pass(&stores.text) & pass(&stores.recall) & pass(&stores.side) & pass(&stores.screen)
+    let Stores { text, recall, held, side, screen } = stores;
+    pass(text) & pass(recall) & pass(held) & pass(side) & pass(screen)
 }

@@ -1,6 +1,6 @@
 //! What is measured: each scene is a session and a list of keys to press on it.
 
-use crate::chidukwore::{insert, Key, Record, FIND, QUOTE, RECALL, UPFIND};
+use crate::chidukwore::{insert, Key, Record, CUT, FIND, MARK, PASTE, QUOTE, RECALL, UPFIND};
 use crate::proved;
 use crate::random::Random;
 use crate::stores::Stores;
@@ -45,6 +45,7 @@ pub fn all(t: usize, h: usize, w: usize) -> Vec<Scene> {
         scene("word by word", &text, &middle, &[NEXT_WORD, NEXT_WORD, LAST_WORD, LAST_WORD]),
         scene("a word as long as the text", &letters, &[], &[NEXT_WORD]),
         scene("delete half and RECALL", &text, &[&middle[..], &rest].concat(), &rest),
+        scene("CUT half and PASTE", &text, &[&middle[..], &[MARK, DOCUMENT_RIGHT]].concat(), &[CUT, PASTE]),
         scene("FIND, ordinary text", &text, &pattern, &[FIND]),
         scene("UPFIND, ordinary text", &text, &[&pattern[..], &[DOCUMENT_RIGHT]].concat(), &[UPFIND]),
         scene("FIND, odd letter last", &letters, &with_pattern(&last), &[FIND]),

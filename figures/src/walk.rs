@@ -1,6 +1,6 @@
 //! Random walks that both cores go, compared in answer, record and every byte of the stores after each key.
 
-use crate::chidukwore::{insert, Key, Record, Reply, FIND, QUOTE, RECALL, REPLACE, UPFIND};
+use crate::chidukwore::{insert, Key, Record, Reply, CUT, FIND, MARK, PASTE, QUOTE, RECALL, REPLACE, UPFIND};
 use crate::random::Random;
 use crate::stores::Stores;
 use crate::{hand, proved};
@@ -47,7 +47,7 @@ fn walk(random: &mut Random, counts: &mut Counts) {
 fn both(record: Record, key: Key, stores: &mut Stores, counts: &mut Counts) -> Reply {
     let mut other = stores.clone();
     let reply = proved::key(record, key, stores);
-    let by_hand = hand::key(record, key, &mut other.text, &mut other.recall, &mut other.side, &mut other.screen);
+    let by_hand = hand::key(record, key, other.lent());
     assert_eq!(reply, by_hand, "answers and records are equal after {key:?} on {record:?}");
     assert!(*stores == other, "stores are equal after {key:?} on {record:?}");
     counts.codes[reply.answer.code] += 1;
@@ -61,7 +61,7 @@ fn letter(random: &mut Random) -> u8 {
 }
 
 fn any_key(random: &mut Random) -> Key {
-    match random.below(20) {
+    match random.below(25) {
         0..=6 => insert(letter(random)),
         7 => insert(random.below(256) as u8),
         8..=12 => Key(1, random.below(2), random.below(2), random.below(5)),
@@ -70,23 +70,28 @@ fn any_key(random: &mut Random) -> Key {
         16 => FIND,
         17 => UPFIND,
         18 => REPLACE,
-        _ => Key(random.below(8), random.below(300), random.below(3), random.below(7)),
+        19 | 20 => MARK,
+        21 => CUT,
+        22 | 23 => PASTE,
+        _ => Key(random.below(11), random.below(300), random.below(3), random.below(7)),
     }
 }
 
-/// Changes a number of the record, a byte of a store or the length of one, or cuts the recall texts in two.
+/// Changes a number of the record, a byte of a store or the length of one, cuts recall texts and held text in two, or puts the mark at the
+/// document's end or one behind it.
 fn damage(random: &mut Random, mut n: Record, stores: &mut Stores) -> Record {
-    let Stores { text, recall, side, screen } = stores;
-    match random.below(7) {
+    let Stores { text, recall, held, side, screen } = stores;
+    match random.below(8) {
         0..=2 => {
             let m = &mut n;
             let numbers = [&mut m.l, &mut m.r, &mut m.ql, &mut m.qr, &mut m.rl, &mut m.rr, &mut m.qrl, &mut m.qrr];
             let others = [&mut m.xl, &mut m.xr, &mut m.pl, &mut m.mode, &mut m.top, &mut m.left, &mut m.rows, &mut m.columns];
-            let number = numbers.into_iter().chain(others).nth(random.below(16)).unwrap();
+            let last = [&mut m.held_left, &mut m.held_right, &mut m.mark];
+            let number = numbers.into_iter().chain(others).chain(last).nth(random.below(19)).unwrap();
             *number = number.wrapping_add(random.one(&[1, 1, 1, usize::MAX, 1 << 63]));
         }
         3 => {
-            let store = if random.once_in(2) { text } else { recall };
+            let store = [text, recall, held].into_iter().nth(random.below(3)).unwrap();
             let at = random.below(store.len());
             store[at] = random.one(&[0, 9, 31, 32, 126, 127, 255]);
         }
@@ -94,9 +99,11 @@ fn damage(random: &mut Random, mut n: Record, stores: &mut Stores) -> Record {
             let cut = |x: usize, y: usize| if x > 1 { (x - 1, y + 1) } else { (x, y) };
             (n.rl, n.rr) = cut(n.rl, n.rr);
             (n.qrl, n.qrr) = cut(n.qrl, n.qrr);
+            (n.held_left, n.held_right) = cut(n.held_left, n.held_right);
         }
         5 => side[random.below(1024)] = random.one(&[0, 9, 10, 97, 127]),
-        _ => [text, recall, side, screen].into_iter().nth(random.below(4)).unwrap().push(0),
+        6 => n.mark = n.l + n.r + random.below(2),
+        _ => [text, recall, held, side, screen].into_iter().nth(random.below(5)).unwrap().push(0),
     }
     n
 }

@@ -6,7 +6,7 @@
 #include "chidukwore.h"
 
 enum { T = 16, ROWS = 2, COLUMNS = 4 };
-static uint8_t text[T], recall[T], side[1024], screen[ROWS * COLUMNS];
+static uint8_t text[T], recall[T], held[T], side[1024], screen[ROWS * COLUMNS];
 static uint8_t buffer[ROWS * (COLUMNS + 7) + 9];
 static struct chidukwore_record record;
 
@@ -55,7 +55,7 @@ static size_t print(const char *what, struct chidukwore_reply reply)
 
 static void key(const char *what, size_t kind, size_t a, size_t b, size_t c)
 {
-    print(what, chidukwore_key(record, kind, a, b, c, text, T, recall, T, side, sizeof side, screen, sizeof screen));
+    print(what, chidukwore_key(record, kind, a, b, c, text, T, recall, T, held, T, side, sizeof side, screen, sizeof screen));
 }
 
 int main(int argc, char **argv)
@@ -70,7 +70,8 @@ int main(int argc, char **argv)
         perror(argv[1]);
         return EXIT_FAILURE;
     }
-    if (print("open", chidukwore_open(n, ROWS, COLUMNS, text, T, recall, T, side, sizeof side, screen, sizeof screen)) != CHIDUKWORE_OK)
+    if (print("open", chidukwore_open(n, ROWS, COLUMNS, text, T, recall, T, held, T, side, sizeof side, screen, sizeof screen)) !=
+        CHIDUKWORE_OK)
         return EXIT_FAILURE;
     key("left to a line ending", CHIDUKWORE_FUNCTION, CHIDUKWORE_MOVE, CHIDUKWORE_LEFT, CHIDUKWORE_LINE_ENDING);
     key("right to a line ending", CHIDUKWORE_FUNCTION, CHIDUKWORE_MOVE, CHIDUKWORE_RIGHT, CHIDUKWORE_LINE_ENDING);
@@ -82,6 +83,14 @@ int main(int argc, char **argv)
     key("recall", CHIDUKWORE_RECALL, 0, 0, 0);
     key("right", CHIDUKWORE_FUNCTION, CHIDUKWORE_MOVE, CHIDUKWORE_RIGHT, CHIDUKWORE_CHARACTER);
     key("insert 5", CHIDUKWORE_INSERT, '5', 0, 0);
+    key("cut without a mark", CHIDUKWORE_CUT, 0, 0, 0);
+    key("left to a line beginning", CHIDUKWORE_FUNCTION, CHIDUKWORE_MOVE, CHIDUKWORE_LEFT, CHIDUKWORE_LINE_BEGINNING);
+    key("mark", CHIDUKWORE_MARK, 0, 0, 0);
+    key("right to a line beginning", CHIDUKWORE_FUNCTION, CHIDUKWORE_MOVE, CHIDUKWORE_RIGHT, CHIDUKWORE_LINE_BEGINNING);
+    key("cut", CHIDUKWORE_CUT, 0, 0, 0);
+    key("left to the document's beginning", CHIDUKWORE_FUNCTION, CHIDUKWORE_MOVE, CHIDUKWORE_LEFT, CHIDUKWORE_DOCUMENT);
+    key("paste", CHIDUKWORE_PASTE, 0, 0, 0);
+    key("paste once more", CHIDUKWORE_PASTE, 0, 0, 0);
     key("no key", 99, 0, 0, 0);
     printf("document:\n");
     save(stdout);

@@ -2,12 +2,13 @@
  * Chidukwore: a proved deck editor core for bench terminals. A C program needs this header and libwindow.a, which is for Linux on x86-64
  * and calls memcpy, memmove and memset, and nothing else.
  *
- * The core keeps nothing between calls. The host owns four stores of bytes and a record; each call is lent the stores, is handed the
+ * The core keeps nothing between calls. The host owns five stores of bytes and a record; each call is lent the stores, is handed the
  * record by value and hands one back. Between calls the host hands record and stores on untouched: it reads them, and writes none of
  * them, but for the screen, which it may overwrite (the next call then names the rows that differ from what it finds there).
  *
  *   text    T bytes, 1 to 65,536: the document
  *   recall  T bytes, the same T: the recall text
+ *   held    T bytes, the same T: the held text, which CUT took and PASTE inserts
  *   side    1,024 bytes: quotation, its recall text, pattern, replacement
  *   screen  rows times columns bytes, row by row; rows 1 to 64, columns 1 to 256
  *
@@ -36,7 +37,8 @@ enum {
     CHIDUKWORE_TEXT = 3,    /* opening: a byte of the text is neither 10 nor 32 to 126; painting: a byte of the screen is not 32 to 126;
                                place is its index, from 0 */
     CHIDUKWORE_SESSION = 4, /* key: record and stores are not a session, as said at the record */
-    CHIDUKWORE_KEY = 5,     /* key: no such key, a byte that is not allowed, or one of the two deletions that are not carried out */
+    CHIDUKWORE_KEY = 5,     /* key: no such key, a byte that is not allowed, one of the two deletions that are not carried out, or in QUOTED
+                               MARK, CUT or PASTE */
     CHIDUKWORE_FULL = 6,    /* key: the finished text would not fit its store */
     CHIDUKWORE_ROOM = 7     /* painting: there are more bytes than the buffer holds */
 };
@@ -48,7 +50,10 @@ enum {
     CHIDUKWORE_RECALL = 2,
     CHIDUKWORE_QUOTE = 3,
     CHIDUKWORE_FIND = 4, /* a: direction */
-    CHIDUKWORE_REPLACE = 5
+    CHIDUKWORE_REPLACE = 5,
+    CHIDUKWORE_MARK = 6,
+    CHIDUKWORE_CUT = 7,
+    CHIDUKWORE_PASTE = 8
 };
 enum { CHIDUKWORE_MOVE = 0, CHIDUKWORE_DELETE = 1 };
 enum { CHIDUKWORE_LEFT = 0, CHIDUKWORE_RIGHT = 1 };
@@ -60,13 +65,18 @@ enum {
     CHIDUKWORE_DOCUMENT = 4
 };
 
+/* What the record's mark is where the document has none: the largest size. */
+#define CHIDUKWORE_NO_MARK SIZE_MAX
+
 /* The session record. A host hands it on and need not look into it; the lengths tell where the texts lie.
  *
  * With the stores it is a session if all of these hold, as they do of whatever an accepted call gives back:
  *   mode is 0 or 1;
- *   the lengths fit: l + r and rl + rr are at most T, and ql + qr, qrl + qrr, xl + xr and pl at most 256, sums that never wrap;
- *   every byte of a text is 10 or 32 to 126, and every byte of text, recall and side that belongs to none is 0;
- *   of each recall text at least one half is empty: rl or rr is 0, and qrl or qrr is 0;
+ *   the lengths fit: l + r, rl + rr and held_left + held_right are at most T, and ql + qr, qrl + qrr, xl + xr and pl at most 256, sums
+ *   that never wrap;
+ *   every byte of a text is 10 or 32 to 126, and every byte of text, recall, held and side that belongs to none is 0;
+ *   of each recall text at least one half is empty, rl or rr is 0 and qrl or qrr is 0; so of the held text, held_left or held_right;
+ *   mark is at most l + r, or CHIDUKWORE_NO_MARK;
  *   in MAIN the quotation and its recall text are empty: ql, qr, qrl and qrr are 0;
  *   the cursor is visible: top < its row <= top + rows, rows from 1, and left <= its column <= left + columns, columns from 0. In QUOTED
  *   it is the quotation's, which stands on lines of its own at the document's cursor, the first begun by >. */
@@ -80,15 +90,17 @@ struct chidukwore_record {
     size_t mode;       /* 0 MAIN, 1 QUOTED */
     size_t top, left;  /* window offsets r and c: rows and columns of the text above and left of the screen */
     size_t rows, columns;
+    size_t held_left, held_right; /* both halves of the held text, one after the other at the front of held */
+    size_t mark;                  /* how many bytes of the document lie left of the mark, or CHIDUKWORE_NO_MARK */
 };
 
 /* What a call answers. After a refusal everything but code and place is 0. */
 struct chidukwore_answer {
     size_t code;        /* 0, or a refusal */
     size_t place;       /* for CHIDUKWORE_TEXT only */
-    size_t steps;       /* of moves, deletions and searches */
-    size_t lines;       /* the newlines that these steps went over or removed */
-    size_t bell;        /* 1 where no place or match was found */
+    size_t steps;       /* of moves, deletions and searches; of CUT the bytes that it took */
+    size_t lines;       /* the newlines that the steps of moves, deletions and searches went over or removed */
+    size_t bell;        /* 1 where no place, match or mark was found */
     size_t first, last; /* the rows to repaint, from 1; 0 and 0: none */
     size_t row, column; /* the cursor on the screen: rows from 1, columns from 0 up to and including columns */
 };
@@ -99,14 +111,15 @@ struct chidukwore_reply {
 };
 
 /* Opens the first n bytes of text: the cursor at its beginning, everything else emptied, the screen painted, all rows named.
- * Refused, it hands back a record of zeros. */
+ * Refused, it hands back a record of zeros, but for its mark, which is CHIDUKWORE_NO_MARK. */
 struct chidukwore_reply chidukwore_open(size_t n, size_t rows, size_t columns, uint8_t *text, size_t text_length, uint8_t *recall,
-                                        size_t recall_length, uint8_t *side, size_t side_length, uint8_t *screen, size_t screen_length);
+                                        size_t recall_length, uint8_t *held, size_t held_length, uint8_t *side, size_t side_length,
+                                        uint8_t *screen, size_t screen_length);
 
 /* Presses a key. Refused, it hands back the record it was given. */
 struct chidukwore_reply chidukwore_key(struct chidukwore_record record, size_t kind, size_t a, size_t b, size_t c, uint8_t *text,
-                                       size_t text_length, uint8_t *recall, size_t recall_length, uint8_t *side, size_t side_length,
-                                       uint8_t *screen, size_t screen_length);
+                                       size_t text_length, uint8_t *recall, size_t recall_length, uint8_t *held, size_t held_length,
+                                       uint8_t *side, size_t side_length, uint8_t *screen, size_t screen_length);
 
 /* What painting answers. */
 struct chidukwore_painting {

@@ -3,9 +3,13 @@
 // A host uses of it what it needs.
 #![allow(dead_code)]
 
-/// The session record: lengths left and right of a cursor, of both halves of a pair, or alone; then mode, offsets, rows and columns.
+/// What the record's mark is where the document has none.
+pub const NO_MARK: usize = usize::MAX;
+
+/// The session record: lengths left and right of a cursor, of both halves of a pair, or alone; then mode, offsets, rows and columns; then
+/// the lengths of the held text's halves, and how many bytes of the document lie left of the mark.
 #[repr(C)]
-#[derive(Clone, Copy, Debug, Default, PartialEq, Eq)]
+#[derive(Clone, Copy, Debug, PartialEq, Eq)]
 pub struct Record {
     pub l: usize,
     pub r: usize,
@@ -23,6 +27,20 @@ pub struct Record {
     pub left: usize,
     pub rows: usize,
     pub columns: usize,
+    pub held_left: usize,
+    pub held_right: usize,
+    pub mark: usize,
+}
+
+/// The record of a refused opening: zeros, and no mark.
+#[rustfmt::skip]
+impl Default for Record {
+    fn default() -> Record {
+        Record {
+            l: 0, r: 0, ql: 0, qr: 0, rl: 0, rr: 0, qrl: 0, qrr: 0, xl: 0, xr: 0, pl: 0, mode: 0, top: 0, left: 0, rows: 0, columns: 0,
+            held_left: 0, held_right: 0, mark: NO_MARK,
+        }
+    }
 }
 
 #[repr(C)]
@@ -64,15 +82,19 @@ pub const QUOTE: Key = Key(3, 0, 0, 0);
 pub const FIND: Key = Key(4, 1, 0, 0);
 pub const UPFIND: Key = Key(4, 0, 0, 0);
 pub const REPLACE: Key = Key(5, 0, 0, 0);
+pub const MARK: Key = Key(6, 0, 0, 0);
+pub const CUT: Key = Key(7, 0, 0, 0);
+pub const PASTE: Key = Key(8, 0, 0, 0);
 
 pub fn insert(b: u8) -> Key {
     Key(0, b.into(), 0, 0)
 }
 
-/// The four stores that a call is lent.
+/// The five stores that a call is lent.
 pub struct Stores<'a> {
     pub text: &'a mut [u8],
     pub recall: &'a mut [u8],
+    pub held: &'a mut [u8],
     pub side: &'a mut [u8],
     pub screen: &'a mut [u8],
 }
@@ -81,12 +103,12 @@ pub struct Stores<'a> {
 extern "C" {
     fn chidukwore_open(
         n: usize, rows: usize, columns: usize,
-        text: *mut u8, text_length: usize, recall: *mut u8, recall_length: usize,
+        text: *mut u8, text_length: usize, recall: *mut u8, recall_length: usize, held: *mut u8, held_length: usize,
         side: *mut u8, side_length: usize, screen: *mut u8, screen_length: usize,
     ) -> Reply;
     fn chidukwore_key(
         record: Record, kind: usize, a: usize, b: usize, c: usize,
-        text: *mut u8, text_length: usize, recall: *mut u8, recall_length: usize,
+        text: *mut u8, text_length: usize, recall: *mut u8, recall_length: usize, held: *mut u8, held_length: usize,
         side: *mut u8, side_length: usize, screen: *mut u8, screen_length: usize,
     ) -> Reply;
     fn chidukwore_paint(
@@ -98,12 +120,12 @@ extern "C" {
 /// Opens the first n bytes of the text store.
 #[rustfmt::skip]
 pub fn open(n: usize, rows: usize, columns: usize, lent: Stores) -> Reply {
-    let Stores { text, recall, side, screen } = lent;
+    let Stores { text, recall, held, side, screen } = lent;
     // Sound: each pointer comes with the length of its own store, and no two stores overlap.
     unsafe {
         chidukwore_open(
             n, rows, columns,
-            text.as_mut_ptr(), text.len(), recall.as_mut_ptr(), recall.len(),
+            text.as_mut_ptr(), text.len(), recall.as_mut_ptr(), recall.len(), held.as_mut_ptr(), held.len(),
             side.as_mut_ptr(), side.len(), screen.as_mut_ptr(), screen.len(),
         )
     }
@@ -112,12 +134,12 @@ pub fn open(n: usize, rows: usize, columns: usize, lent: Stores) -> Reply {
 /// Presses a key.
 #[rustfmt::skip]
 pub fn key(record: Record, Key(kind, a, b, c): Key, lent: Stores) -> Reply {
-    let Stores { text, recall, side, screen } = lent;
+    let Stores { text, recall, held, side, screen } = lent;
     // Sound: as above.
     unsafe {
         chidukwore_key(
             record, kind, a, b, c,
-            text.as_mut_ptr(), text.len(), recall.as_mut_ptr(), recall.len(),
+            text.as_mut_ptr(), text.len(), recall.as_mut_ptr(), recall.len(), held.as_mut_ptr(), held.len(),
             side.as_mut_ptr(), side.len(), screen.as_mut_ptr(), screen.len(),
         )
     }

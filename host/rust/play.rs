@@ -16,6 +16,7 @@ use std::io::{self, Read, Write};
 struct Bench {
     text: Vec<u8>,
     recall: Vec<u8>,
+    held: Vec<u8>,
     side: Vec<u8>,
     screen: Vec<u8>,
     buffer: Vec<u8>,
@@ -25,7 +26,8 @@ struct Bench {
 
 impl Bench {
     fn lent(&mut self) -> Stores<'_> {
-        Stores { text: &mut self.text, recall: &mut self.recall, side: &mut self.side, screen: &mut self.screen }
+        let Bench { text, recall, held, side, screen, .. } = self;
+        Stores { text, recall, held, side, screen }
     }
 
     /// Hands the record on, and writes what this call has to show.
@@ -51,8 +53,9 @@ fn play(script: &Script, frames: bool) -> Result<(), String> {
     let Script { rows, columns, store, .. } = *script;
     // A screen larger than any is refused whatever is lent.
     let (h, w) = if rows <= 64 && columns <= 256 { (rows, columns) } else { (0, 0) };
-    let (recall, side, screen, buffer) = (vec![0; store], vec![0; 1024], vec![0; h * w], vec![0; enough(h, w)]);
-    let mut bench = Bench { text: script.text.clone(), recall, side, screen, buffer, record: Record::default(), frames };
+    let (recall, held, side) = (vec![0; store], vec![0; store], vec![0; 1024]);
+    let (screen, buffer) = (vec![0; h * w], vec![0; enough(h, w)]);
+    let mut bench = Bench { text: script.text.clone(), recall, held, side, screen, buffer, record: Record::default(), frames };
     bench.text.resize(store, 0);
     let unwritten = |error: io::Error| error.to_string();
 

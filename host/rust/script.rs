@@ -1,7 +1,7 @@
 //! Scripts of the bench program for other hosts: docs/RULES.md, section 9, says how one is written. Here it is read as a whole before
 //! anything is run, and the bench program's two limits are not applied: at most 8,192 bytes of input, and a store of at most 4,096.
 
-use crate::chidukwore::{insert, Key, FIND, QUOTE, RECALL, REPLACE, UPFIND};
+use crate::chidukwore::{insert, Key, CUT, FIND, MARK, PASTE, QUOTE, RECALL, REPLACE, UPFIND};
 
 pub struct Script {
     pub rows: usize,
@@ -60,6 +60,9 @@ fn key(name: &str) -> Option<Key> {
         "find" => FIND,
         "upfind" => UPFIND,
         "replace" => REPLACE,
+        "mark" => MARK,
+        "cut" => CUT,
+        "paste" => PASTE,
         _ => {
             let (action, direction) = (next(&["move", "delete"])?, next(&["left", "right"])?);
             Key(1, action, direction, next(&["character", "word", "line-begin", "line-end", "document"])?)

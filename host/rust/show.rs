@@ -3,7 +3,7 @@
 
 mod chidukwore;
 
-use chidukwore::{insert, Answer, Key, Record, Reply, Stores, FIND, QUOTE, RECALL};
+use chidukwore::{insert, Answer, Key, Record, Reply, Stores, CUT, FIND, MARK, PASTE, QUOTE, RECALL};
 use std::process::ExitCode;
 
 const T: usize = 16;
@@ -14,6 +14,7 @@ const COLUMNS: usize = 4;
 struct Bench {
     text: [u8; T],
     recall: [u8; T],
+    held: [u8; T],
     side: [u8; 1024],
     screen: [u8; ROWS * COLUMNS],
     record: Record,
@@ -21,7 +22,8 @@ struct Bench {
 
 impl Bench {
     fn lent(&mut self) -> Stores<'_> {
-        Stores { text: &mut self.text, recall: &mut self.recall, side: &mut self.side, screen: &mut self.screen }
+        let Bench { text, recall, held, side, screen, .. } = self;
+        Stores { text, recall, held, side, screen }
     }
 
     /// A deck that is longer than T bytes is opened by its whole length all the same: opening refuses that with LONG.
@@ -70,7 +72,8 @@ fn main() -> ExitCode {
         eprintln!("usage: show DECK, a file");
         return ExitCode::FAILURE;
     };
-    let mut bench = Bench { text: [0; T], recall: [0; T], side: [0; 1024], screen: [0; 8], record: Record::default() };
+    let (text, recall, held) = ([0; T], [0; T], [0; T]);
+    let mut bench = Bench { text, recall, held, side: [0; 1024], screen: [0; ROWS * COLUMNS], record: Record::default() };
     if !bench.open(&deck) {
         return ExitCode::FAILURE;
     }
@@ -84,6 +87,14 @@ fn main() -> ExitCode {
     bench.key("recall", RECALL);
     bench.key("right", Key(1, 0, 1, 0));
     bench.key("insert 5", insert(b'5'));
+    bench.key("cut without a mark", CUT);
+    bench.key("left to a line beginning", Key(1, 0, 0, 2));
+    bench.key("mark", MARK);
+    bench.key("right to a line beginning", Key(1, 0, 1, 2));
+    bench.key("cut", CUT);
+    bench.key("left to the document's beginning", Key(1, 0, 0, 4));
+    bench.key("paste", PASTE);
+    bench.key("paste once more", PASTE);
     bench.key("no key", Key(99, 0, 0, 0));
     print!("document:\n{}", String::from_utf8_lossy(&bench.document()));
     ExitCode::SUCCESS

@@ -9,12 +9,12 @@ use std::slice::{from_raw_parts, from_raw_parts_mut};
 ///
 /// # Safety
 /// Each pointer is that of as many bytes as its length says, and none overlap.
-unsafe fn lend(lent: [(*mut u8, usize); 4], call: impl FnOnce(&mut Stores) -> Reply) -> Reply {
+unsafe fn lend(lent: [(*mut u8, usize); 5], call: impl FnOnce(&mut Stores) -> Reply) -> Reply {
     let mut lent = lent.map(|(store, length)| from_raw_parts_mut(store, length));
     let copy = |i: usize| lent[i].to_vec();
-    let mut stores = Stores { text: copy(0), recall: copy(1), side: copy(2), screen: copy(3) };
+    let mut stores = Stores { text: copy(0), recall: copy(1), held: copy(2), side: copy(3), screen: copy(4) };
     let reply = call(&mut stores);
-    for (store, bytes) in lent.iter_mut().zip([stores.text, stores.recall, stores.side, stores.screen]) {
+    for (store, bytes) in lent.iter_mut().zip([stores.text, stores.recall, stores.held, stores.side, stores.screen]) {
         store.copy_from_slice(&bytes);
     }
     reply
@@ -31,12 +31,14 @@ pub unsafe extern "C" fn chidukwore_open(
     text_length: usize,
     recall: *mut u8,
     recall_length: usize,
+    held: *mut u8,
+    held_length: usize,
     side: *mut u8,
     side_length: usize,
     screen: *mut u8,
     screen_length: usize,
 ) -> Reply {
-    let lent = [(text, text_length), (recall, recall_length), (side, side_length), (screen, screen_length)];
+    let lent = [(text, text_length), (recall, recall_length), (held, held_length), (side, side_length), (screen, screen_length)];
     lend(lent, |stores| Second.open(n, rows, columns, stores))
 }
 
@@ -53,12 +55,14 @@ pub unsafe extern "C" fn chidukwore_key(
     text_length: usize,
     recall: *mut u8,
     recall_length: usize,
+    held: *mut u8,
+    held_length: usize,
     side: *mut u8,
     side_length: usize,
     screen: *mut u8,
     screen_length: usize,
 ) -> Reply {
-    let lent = [(text, text_length), (recall, recall_length), (side, side_length), (screen, screen_length)];
+    let lent = [(text, text_length), (recall, recall_length), (held, held_length), (side, side_length), (screen, screen_length)];
     lend(lent, |stores| Second.key(record, Numbers { kind, a, b, c }, stores))
 }
 

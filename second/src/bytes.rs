@@ -1,4 +1,4 @@
-//! The record and the four stores (01, "What the core holds"): sizes, encoding, decoding, and the session test by its sentences.
+//! The record and the five stores (01, "What the core holds"; 02, M-101): sizes, encoding, decoding, and the session test by its sentences.
 
 use crate::plain::{allowed, Doc, Edited, Editor, Mode, QUARTER};
 use crate::window::{virtual_text, visible, Offsets};
@@ -7,10 +7,12 @@ pub const LARGEST_T: usize = 65_536;
 pub const LARGEST_H: usize = 64;
 pub const LARGEST_W: usize = 256;
 pub const SIDE: usize = 4 * QUARTER;
+/// What the record says of the mark where there is none.
+pub const NO_MARK: usize = usize::MAX;
 
 /// The session record as the host's boundary has it; r and c of document 01 are `top` and `left`, H and W `rows` and `columns`.
 #[repr(C)]
-#[derive(Clone, Copy, Debug, Default, PartialEq, Eq)]
+#[derive(Clone, Copy, Debug, PartialEq, Eq)]
 pub struct Record {
     pub l: usize,
     pub r: usize,
@@ -28,13 +30,44 @@ pub struct Record {
     pub left: usize,
     pub rows: usize,
     pub columns: usize,
+    pub held_left: usize,
+    pub held_right: usize,
+    pub mark: usize,
+}
+
+/// "A record of zeros", as a refused opening returns it; its mark is none, as an opening gives it (readings, C15).
+impl Default for Record {
+    fn default() -> Record {
+        Record {
+            l: 0,
+            r: 0,
+            ql: 0,
+            qr: 0,
+            rl: 0,
+            rr: 0,
+            qrl: 0,
+            qrr: 0,
+            xl: 0,
+            xr: 0,
+            pl: 0,
+            mode: 0,
+            top: 0,
+            left: 0,
+            rows: 0,
+            columns: 0,
+            held_left: 0,
+            held_right: 0,
+            mark: NO_MARK,
+        }
+    }
 }
 
 impl Record {
-    /// The 16 numbers in their order.
-    pub fn fields(&mut self) -> [&mut usize; 16] {
-        let Record { l, r, ql, qr, rl, rr, qrl, qrr, xl, xr, pl, mode, top, left, rows, columns } = self;
-        [l, r, ql, qr, rl, rr, qrl, qrr, xl, xr, pl, mode, top, left, rows, columns]
+    /// The 19 numbers in their order.
+    pub fn fields(&mut self) -> [&mut usize; 19] {
+        let Record { l, r, ql, qr, rl, rr, qrl, qrr, xl, xr, pl, mode, top, left, rows, columns, held_left, held_right, mark } =
+            self;
+        [l, r, ql, qr, rl, rr, qrl, qrr, xl, xr, pl, mode, top, left, rows, columns, held_left, held_right, mark]
     }
 }
 
@@ -42,6 +75,7 @@ impl Record {
 pub struct Stores {
     pub text: Vec<u8>,
     pub recall: Vec<u8>,
+    pub held: Vec<u8>,
     pub side: Vec<u8>,
     pub screen: Vec<u8>,
 }
@@ -49,7 +83,7 @@ pub struct Stores {
 impl Stores {
     /// Stores of the right lengths for T, H and W, all zeros.
     pub fn zeros(t: usize, h: usize, w: usize) -> Stores {
-        Stores { text: vec![0; t], recall: vec![0; t], side: vec![0; SIDE], screen: vec![0; h * w] }
+        Stores { text: vec![0; t], recall: vec![0; t], held: vec![0; t], side: vec![0; SIDE], screen: vec![0; h * w] }
     }
 }
 
@@ -57,6 +91,7 @@ impl Stores {
 pub fn sizes_fit(stores: &Stores, h: usize, w: usize) -> bool {
     (1..=LARGEST_T).contains(&stores.text.len())
         && stores.recall.len() == stores.text.len()
+        && stores.held.len() == stores.text.len()
         && stores.side.len() == SIDE
         && (1..=LARGEST_H).contains(&h)
         && (1..=LARGEST_W).contains(&w)
@@ -78,8 +113,9 @@ fn pair(doc: &Doc, length: usize) -> Vec<u8> {
     area
 }
 
-/// The text store, the recall store and the side store of a plain state. The screen isn't a matter of the state alone.
-pub fn encode(editor: &Editor, t: usize) -> (Vec<u8>, Vec<u8>, Vec<u8>) {
+/// The text store, the recall store, the held text's store and the side store of a plain state. The screen isn't a matter of the state
+/// alone.
+pub fn encode(editor: &Editor, t: usize) -> (Vec<u8>, Vec<u8>, Vec<u8>, Vec<u8>) {
     let pattern = Doc::new(&editor.pattern, &[]);
     let side = [
         gap(&editor.quoted.text, QUARTER),
@@ -87,7 +123,7 @@ pub fn encode(editor: &Editor, t: usize) -> (Vec<u8>, Vec<u8>, Vec<u8>) {
         pair(&pattern, QUARTER),
         pair(&editor.replacement, QUARTER),
     ];
-    (gap(&editor.main.text, t), pair(&editor.main.recall, t), side.concat())
+    (gap(&editor.main.text, t), pair(&editor.main.recall, t), pair(&editor.held, t), side.concat())
 }
 
 pub fn record(editor: &Editor, at: Offsets, h: usize, w: usize) -> Record {
@@ -109,6 +145,9 @@ pub fn record(editor: &Editor, at: Offsets, h: usize, w: usize) -> Record {
         left: at.c,
         rows: h,
         columns: w,
+        held_left: editor.held.l.len(),
+        held_right: editor.held.r.len(),
+        mark: editor.mark.unwrap_or(NO_MARK),
     }
 }
 
@@ -119,12 +158,13 @@ fn fit(l: usize, r: usize, area: &[u8]) -> bool {
 
 /// The plain state that record and stores stand for, if they are a session. The sizes are known to be right.
 pub fn session(record: &Record, stores: &Stores) -> Option<Editor> {
-    let Record { l, r, ql, qr, rl, rr, qrl, qrr, xl, xr, pl, .. } = *record;
+    let Record { l, r, ql, qr, rl, rr, qrl, qrr, xl, xr, pl, held_left, held_right, .. } = *record;
     let quarter = |i: usize| &stores.side[i * QUARTER..(i + 1) * QUARTER];
 
     // Lengths fit their areas.
     let fitting = fit(l, r, &stores.text)
         && fit(rl, rr, &stores.recall)
+        && fit(held_left, held_right, &stores.held)
         && fit(ql, qr, quarter(0))
         && fit(qrl, qrr, quarter(1))
         && fit(pl, 0, quarter(2))
@@ -139,6 +179,7 @@ pub fn session(record: &Record, stores: &Stores) -> Option<Editor> {
     let behind = |area: &[u8], l: usize, r: usize| free(&area[l + r..]);
     let zeros = between(&stores.text, l, r)
         && behind(&stores.recall, rl, rr)
+        && behind(&stores.held, held_left, held_right)
         && between(quarter(0), ql, qr)
         && behind(quarter(1), qrl, qrr)
         && behind(quarter(2), pl, 0)
@@ -160,16 +201,23 @@ pub fn session(record: &Record, stores: &Stores) -> Option<Editor> {
             1 => Mode::Quoted,
             _ => return None,
         },
+        held: front(&stores.held, held_left, held_right),
+        // "A session needs the mark within the document" (02, M-101): behind its last byte at most (C18).
+        mark: match record.mark {
+            NO_MARK => None,
+            mark if mark <= l + r => Some(mark),
+            _ => return None,
+        },
     };
 
     // Each text byte is allowed.
     let (main, quoted) = (&editor.main, &editor.quoted);
-    let docs = [&main.text, &main.recall, &quoted.text, &quoted.recall, &editor.replacement];
+    let docs = [&main.text, &main.recall, &quoted.text, &quoted.recall, &editor.replacement, &editor.held];
     let good = |doc: &&Doc| doc.l.iter().chain(&doc.r).all(|byte| allowed(*byte));
     let letters = docs.iter().all(good) && editor.pattern.iter().all(|byte| allowed(*byte));
 
-    // Of each recall pair at least one half is empty; the replacement is no recall pair.
-    let halves = (rl == 0 || rr == 0) && (qrl == 0 || qrr == 0);
+    // Of each recall pair at least one half is empty; the replacement is no recall pair. "The held pair under the recall pair's rule."
+    let halves = (rl == 0 || rr == 0) && (qrl == 0 || qrr == 0) && (held_left == 0 || held_right == 0);
 
     // In mode MAIN the quotation and its recall text are empty.
     let quiet = editor.mode == Mode::Quoted || editor.quoted == Edited::default();

@@ -1,11 +1,11 @@
 //! Calls at the host's boundary: keys on sessions that are made directly (not only such as keys lead to) and then often damaged,
 //! openings of anything, and small arbitrary numbers and bytes.
 
-use crate::bytes::{encode, record, Record, Stores, LARGEST_T};
+use crate::bytes::{encode, record, Record, Stores, LARGEST_T, NO_MARK};
 use crate::core::{numbers_of, Core, Numbers, Reply};
 use crate::damage;
 use crate::generate::{columns, function, length, letters, rows, store, text, DIRECTIONS, NOT_ALLOWED};
-use crate::plain::{Doc, Edited, Editor, Key, Mode, QUARTER};
+use crate::plain::{press, Action, Direction, Doc, Edited, Editor, Key, Mode, QUARTER};
 use crate::random::Random;
 use crate::window::{cursor, virtual_text, window, Offsets};
 
@@ -22,7 +22,7 @@ pub enum Kind {
 }
 
 impl Call {
-    /// What a core makes of it: the reply, and all four stores afterwards.
+    /// What a core makes of it: the reply, and all five stores afterwards.
     pub fn outcome(&self, core: &dyn Core) -> (Reply, Stores) {
         let mut stores = self.stores.clone();
         let reply = match self.kind {
@@ -63,7 +63,7 @@ fn doc(random: &mut Random, text: Vec<u8>) -> Doc {
     Doc::new(&text[..at], &text[at..])
 }
 
-/// A recall pair: one half is empty. Its length is the room that is left, one byte more or less, or any up to the area's.
+/// A recall pair or held pair: one half is empty. Its length is the room that is left, one byte more or less, or any up to the area's.
 fn recall(random: &mut Random, letters: &[u8], room: usize, area: usize) -> Doc {
     let n = match random.below(6) {
         0 => 0,
@@ -111,6 +111,7 @@ fn editor(random: &mut Random, t: usize) -> Editor {
     let content = text(random, letters, n);
     let document = doc(random, content);
     let recall_text = recall(random, letters, t - n, t);
+    let held = recall(random, letters, t - n, t);
     let pattern = pattern(random, letters, &document);
     let room = t - n + pattern.len();
     let quarter = |random: &mut Random| {
@@ -127,7 +128,8 @@ fn editor(random: &mut Random, t: usize) -> Editor {
         doc(random, text)
     };
     let replacement = quarter(random);
-    let mut editor = Editor { main: Edited { text: document, recall: recall_text }, pattern, replacement, ..Editor::default() };
+    let main = Edited { text: document, recall: recall_text };
+    let mut editor = Editor { main, held, pattern, replacement, ..Editor::default() };
     if random.percent(45) {
         editor.quoted.text = if random.percent(35) {
             // One that FIND meets.
@@ -142,6 +144,28 @@ fn editor(random: &mut Random, t: usize) -> Editor {
     editor
 }
 
+/// A mark at, before or behind the stretch that a key works on, at an end of the document, anywhere, or none.
+fn mark(random: &mut Random, editor: &Editor, key: Key, t: usize) -> Option<usize> {
+    let (cursor, end) = (editor.main.text.l.len(), editor.main.text.length());
+    // Where the stretch ends that a deletion or REPLACE takes away, and that an insertion brings.
+    let other = match key {
+        Key::Function(Action::Delete, direction, _) => {
+            let steps = press(editor, key, t).map_or(0, |pressed| pressed.steps);
+            match direction {
+                Direction::Left => cursor.saturating_sub(steps),
+                Direction::Right => cursor + steps,
+            }
+        }
+        Key::Replace => cursor + editor.pattern.len(),
+        _ => cursor,
+    };
+    let any = random.within(0, end);
+    let (low, high) = (cursor.min(other), cursor.max(other));
+    let inside = random.within(low, high);
+    let at = random.pick(&[cursor, other, other, low.saturating_sub(1), high + 1, inside, 0, end, any]);
+    random.percent(80).then_some(at.min(end))
+}
+
 /// Offsets that show the cursor, most often just so.
 fn offsets(random: &mut Random, text: &Doc, h: usize, w: usize) -> Offsets {
     let (row, column) = cursor(text);
@@ -154,14 +178,17 @@ fn offsets(random: &mut Random, text: &Doc, h: usize, w: usize) -> Offsets {
 }
 
 fn key(random: &mut Random, letters: &[u8]) -> Key {
-    match random.weighted(&[15, 4, 35, 12, 8, 10, 16]) {
+    match random.weighted(&[15, 4, 35, 12, 8, 10, 16, 4, 12, 10]) {
         0 => Key::Insert(random.pick(letters)),
         1 => Key::Insert(random.pick(&NOT_ALLOWED)),
         2 => function(random),
         3 => Key::Recall,
         4 => Key::Quote,
         5 => Key::Find(random.pick(&DIRECTIONS)),
-        _ => Key::Replace,
+        6 => Key::Replace,
+        7 => Key::Mark,
+        8 => Key::Cut,
+        _ => Key::Paste,
     }
 }
 
@@ -169,6 +196,9 @@ fn key(random: &mut Random, letters: &[u8]) -> Key {
 fn on_session(random: &mut Random, times: usize) -> Call {
     let (t, h, w) = (any_store(random), rows(random), columns(random));
     let mut editor = editor(random, t);
+    let letters = letters(random);
+    let key = key(random, letters);
+    editor.mark = mark(random, &editor, key, t);
     if times > 0 && random.percent(6) {
         // Back in MAIN, with something of the quotation left.
         editor.mode = Mode::Main;
@@ -180,8 +210,8 @@ fn on_session(random: &mut Random, times: usize) -> Call {
     }
     let seen = virtual_text(&editor);
     let at = offsets(random, &seen, h, w);
-    let (text, recall, side) = encode(&editor, t);
-    let mut stores = Stores { text, recall, side, screen: window(&seen, at, h, w) };
+    let (text, recall, held, side) = encode(&editor, t);
+    let mut stores = Stores { text, recall, held, side, screen: window(&seen, at, h, w) };
     // The lent screen may show anything; only the named rows depend on it.
     for _ in 0..random.pick(&[0, 0, 0, 0, 1, 3]) {
         let cell = random.below(h * w);
@@ -190,8 +220,7 @@ fn on_session(random: &mut Random, times: usize) -> Call {
     if random.percent(5) {
         stores.screen.fill(random.pick(&[0, 32, b'a']));
     }
-    let letters = letters(random);
-    let mut numbers = numbers_of(key(random, letters));
+    let mut numbers = numbers_of(key);
     let mut record = record(&editor, at, h, w);
     for _ in 0..times {
         match random.weighted(&[45, 25, 20, 10]) {
@@ -209,9 +238,10 @@ fn opening(random: &mut Random) -> Call {
     let (t, mut h, mut w) = (any_store(random), rows(random), columns(random));
     let letters = letters(random);
     let mut stores = Stores::zeros(t, h, w);
-    let (old_recall, old_screen) = (random.draw() as u8, random.draw() as u8);
+    let [old_recall, old_held, old_screen] = [(); 3].map(|()| random.draw() as u8);
     stores.text = text(random, letters, t);
     stores.recall.fill(old_recall);
+    stores.held.fill(old_held);
     stores.side.iter_mut().for_each(|byte| *byte = random.draw() as u8);
     stores.screen.fill(old_screen);
     let n = match random.below(10) {
@@ -248,16 +278,21 @@ fn arbitrary(random: &mut Random) -> Call {
     let (t, h, w) = (random.within(1, 4), random.within(1, 2), random.within(1, 3));
     let mut stores = Stores::zeros(t, h, w);
     let mut record = Record { rows: h, columns: w, ..Record::default() };
-    for field in &mut record.fields()[..14] {
-        **field = random.pick(&[0, 0, 0, 1, 2]);
+    for (i, field) in record.fields().into_iter().enumerate().filter(|(i, _)| !(14..16).contains(i)) {
+        *field = random.pick(&[0, 0, 0, 1, 2]);
+        // The mark comes last.
+        if i == 18 && random.percent(60) {
+            *field = NO_MARK;
+        }
     }
     for _ in 0..random.below(6) {
         let at = random.below(t);
         stores.text[at] = random.pick(&[0, 10, 32, b'a', 127]);
         stores.recall[random.below(t)] = random.pick(&[0, 10, 32, b'a', 127]);
+        stores.held[random.below(t)] = random.pick(&[0, 0, 10, 32, b'a', 127]);
         stores.side[random.below(4) * QUARTER] = random.pick(&[0, 10, 32, b'a', 127]);
         stores.side[random.below(1_024)] = random.pick(&[0, 0, 0, b'a']);
     }
-    let numbers = Numbers { kind: random.below(7), a: random.below(4), b: random.below(3), c: random.below(6) };
+    let numbers = Numbers { kind: random.below(10), a: random.below(4), b: random.below(3), c: random.below(6) };
     Call { kind: Kind::Key { record, numbers }, stores }
 }

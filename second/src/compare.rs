@@ -1,6 +1,6 @@
 //! The comparison: scripts through the bench program, walks and single calls through the host's boundary, each against this program.
 
-use crate::bytes::{Stores, LARGEST_T};
+use crate::bytes::{Stores, LARGEST_T, NO_MARK};
 use crate::calls::{self, Call, Kind};
 use crate::core::{key_of, numbers_of, Answer, Core, Reply, Second};
 use crate::generate;
@@ -40,6 +40,8 @@ pub struct Codes {
     /// Answers with lines crossed.
     pub crossed: usize,
     pub quoted: usize,
+    /// Keys where the record names a mark.
+    pub marked: usize,
 }
 
 impl Codes {
@@ -51,6 +53,7 @@ impl Codes {
         let Kind::Key { record, numbers } = call.kind else { return };
         let quoted = record.mode == 1;
         self.quoted += quoted as usize;
+        self.marked += (record.mark != NO_MARK) as usize;
         let recall = if quoted { record.qrl.max(record.qrr) } else { record.rl.max(record.rr) };
         let deletion = matches!(key_of(numbers), Some(Key::Function(Action::Delete, ..)));
         self.kept += (answer.bell == 1 && deletion && recall > 0) as usize;
@@ -60,8 +63,8 @@ impl Codes {
 impl std::fmt::Display for Codes {
     fn fmt(&self, f: &mut std::fmt::Formatter) -> std::fmt::Result {
         let names = ["accepted", "SIZE", "LONG", "TEXT", "SESSION", "KEY", "FULL", "ROOM"];
-        let names = names.iter().chain(&["bell", "recall text kept", "lines crossed", "in QUOTED"]);
-        let counts = self.codes.into_iter().chain([self.bells, self.kept, self.crossed, self.quoted]);
+        let names = names.iter().chain(&["bell", "recall text kept", "lines crossed", "in QUOTED", "with a mark"]);
+        let counts = self.codes.into_iter().chain([self.bells, self.kept, self.crossed, self.quoted, self.marked]);
         let shown: Vec<String> =
             names.zip(counts).filter(|(_, count)| *count > 0).map(|(name, count)| format!("{name} {count}")).collect();
         write!(f, "{}: {}", self.codes.iter().sum::<usize>(), shown.join(", "))
@@ -120,7 +123,7 @@ fn a_walk(random: &mut Random, i: u64) -> Walk {
     walk
 }
 
-/// One call in both programs: the same reply and the same bytes in all four stores, or none.
+/// One call in both programs: the same reply and the same bytes in all five stores, or none.
 fn both(core: &dyn Core, call: &Call, codes: &mut Codes) -> Option<(Reply, Stores)> {
     let outcome = call.outcome(core);
     if outcome != call.outcome(&Second) {

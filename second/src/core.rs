@@ -43,7 +43,7 @@ pub struct Numbers {
     pub c: usize,
 }
 
-/// Two calls on four lent stores, and the bytes for terminals: this program's, or the proved core's behind its boundary.
+/// Two calls on five lent stores, and the bytes for terminals: this program's, or the proved core's behind its boundary.
 pub trait Core {
     fn open(&self, n: usize, h: usize, w: usize, stores: &mut Stores) -> Reply;
     fn key(&self, record: Record, numbers: Numbers, stores: &mut Stores) -> Reply;
@@ -110,7 +110,7 @@ fn finish(editor: &Editor, offsets: Offsets, h: usize, w: usize, stores: &mut St
     let screen = window(&text, at, h, w);
     let (first, last) = named_rows(&stores.screen, &screen, w);
     let (row, column) = cursor(&text);
-    (stores.text, stores.recall, stores.side) = encode(editor, stores.text.len());
+    (stores.text, stores.recall, stores.held, stores.side) = encode(editor, stores.text.len());
     stores.screen = screen;
     let answer = Answer { first, last, row: row - at.r, column: column - at.c, ..Answer::default() };
     Reply { answer, record: record(editor, at, h, w) }
@@ -125,6 +125,9 @@ pub fn key_of(numbers: Numbers) -> Option<Key> {
         3 => Key::Quote,
         4 => Key::Find(direction(numbers.a)?),
         5 => Key::Replace,
+        6 => Key::Mark,
+        7 => Key::Cut,
+        8 => Key::Paste,
         _ => return None,
     })
 }
@@ -150,6 +153,9 @@ pub fn numbers_of(key: Key) -> Numbers {
         Key::Quote => (3, 0, 0, 0),
         Key::Find(direction) => (4, direction as usize, 0, 0),
         Key::Replace => (5, 0, 0, 0),
+        Key::Mark => (6, 0, 0, 0),
+        Key::Cut => (7, 0, 0, 0),
+        Key::Paste => (8, 0, 0, 0),
     };
     Numbers { kind, a, b, c }
 }

@@ -1,6 +1,6 @@
 //! Damage to the record, to a byte of a store, to a store's length, to the numbers of a key.
 
-use crate::bytes::{Record, Stores, LARGEST_T};
+use crate::bytes::{Record, Stores, LARGEST_T, NO_MARK};
 use crate::core::Numbers;
 use crate::plain::Doc;
 use crate::random::Random;
@@ -13,15 +13,15 @@ pub fn record(random: &mut Random, record: &mut Record, stores: &mut Stores, see
     let (row, column) = cursor(seen);
     let (h, w) = (record.rows, record.columns);
     let fields = record.fields();
-    let field = random.below(16);
-    // Where a pair of lengths begins: those of the document, the quotation, the three pairs.
-    let first = 2 * random.below(5);
-    match random.below(10) {
+    let field = random.below(19);
+    // Where a pair of lengths begins: those of the document, the quotation, the four pairs.
+    let first = random.pick(&[0, 2, 4, 6, 8, 16]);
+    match random.below(11) {
         0 => *fields[field] = fields[field].wrapping_add(1),
         1 => *fields[field] = fields[field].wrapping_sub(1),
         2 => *fields[field] = random.pick(&HUGE),
         3 => {
-            let other = random.below(16);
+            let other = random.below(19);
             let value = *fields[other];
             *fields[other] = std::mem::replace(fields[field], value);
         }
@@ -42,6 +42,11 @@ pub fn record(random: &mut Random, record: &mut Record, stores: &mut Stores, see
                 random.pick(&[column, column + 1, column.wrapping_sub(w), column.wrapping_sub(w).wrapping_sub(1), usize::MAX])
         }
         8 => *fields[11] = random.pick(&[0, 1, 2, 3, 256, usize::MAX]),
+        // The mark at the document's end, one beyond it, far off, or next to the number that is none.
+        9 => {
+            let (end, huge) = (fields[0].wrapping_add(*fields[1]), random.pick(&HUGE));
+            *fields[18] = random.pick(&[end, end.wrapping_add(1), end.wrapping_add(1), huge, NO_MARK - 1, NO_MARK]);
+        }
         // Another H or W, with a screen that would be right for it.
         _ => {
             *fields[14 + random.below(2)] = random.pick(&[0, 1, 2, 64, 65, 256, 257]);
@@ -56,9 +61,10 @@ pub fn record(random: &mut Random, record: &mut Record, stores: &mut Stores, see
 pub fn byte(random: &mut Random, record: &Record, stores: &mut Stores) {
     let t = stores.text.len();
     let r = record;
-    let (store, edges): (&mut Vec<u8>, Vec<usize>) = match random.below(3) {
+    let (store, edges): (&mut Vec<u8>, Vec<usize>) = match random.below(4) {
         0 => (&mut stores.text, vec![0, r.l, t.wrapping_sub(r.r), t.wrapping_sub(1)]),
         1 => (&mut stores.recall, vec![0, r.rl.wrapping_add(r.rr), t.wrapping_sub(1)]),
+        2 => (&mut stores.held, vec![0, r.held_left.wrapping_add(r.held_right), t.wrapping_sub(1)]),
         _ => {
             let edges = [0, r.ql, 256_usize.wrapping_sub(r.qr), 255, 256, r.qrl.wrapping_add(r.qrr).wrapping_add(256), 511, 512];
             let others = [r.pl.wrapping_add(512), 767, 768, r.xl.wrapping_add(r.xr).wrapping_add(768), 1_023];
@@ -74,27 +80,23 @@ pub fn byte(random: &mut Random, record: &Record, stores: &mut Stores) {
 }
 
 pub fn length(random: &mut Random, stores: &mut Stores) {
-    let all = [&mut stores.text, &mut stores.recall, &mut stores.side, &mut stores.screen];
+    let Stores { text, recall, held, side, screen } = stores;
     match random.below(6) {
         0 => {
-            all[random.below(4)].pop();
+            [text, recall, held, side, screen][random.below(5)].pop();
         }
-        1 => all[random.below(4)].push(random.pick(&[0, b'a'])),
-        2 => all[random.below(4)].clear(),
-        // Both stores, one byte longer or shorter at the back: a session no more, but for an empty right text.
-        3 => {
-            stores.text.push(0);
-            stores.recall.push(0);
-        }
-        4 => {
-            stores.text.pop();
-            stores.recall.pop();
-        }
+        1 => [text, recall, held, side, screen][random.below(5)].push(random.pick(&[0, b'a'])),
+        2 => [text, recall, held, side, screen][random.below(5)].clear(),
+        // The stores of length T, one byte longer or shorter at the back: a session no more, but for an empty right text. Now and then one
+        // or two of them stay.
+        3 => [text, recall, held][random.below(4).saturating_sub(1)..].iter_mut().for_each(|store| store.push(0)),
+        4 => [held, recall, text][random.below(4).saturating_sub(1)..].iter_mut().for_each(|store| {
+            store.pop();
+        }),
         _ => {
             if random.percent(3) {
                 let t = random.pick(&[LARGEST_T, LARGEST_T + 1]);
-                stores.text.resize(t, 0);
-                stores.recall.resize(t, 0);
+                [text, recall, held].into_iter().for_each(|store| store.resize(t, 0));
             }
         }
     }
@@ -102,7 +104,7 @@ pub fn length(random: &mut Random, stores: &mut Stores) {
 
 /// Numbers that name no key, and numbers in places that are not looked at.
 pub fn key(random: &mut Random, numbers: &mut Numbers) {
-    let number = random.pick(&[0, 1, 2, 3, 4, 5, 6, 7, 97, 256, 256 + 97, (1 << 32) + 1, usize::MAX]);
+    let number = random.pick(&[0, 1, 2, 3, 4, 5, 6, 7, 8, 9, 97, 256, 256 + 97, (1 << 32) + 1, usize::MAX]);
     match random.below(4) {
         0 => numbers.kind = number,
         1 => numbers.a = number,

@@ -1,7 +1,8 @@
-//! The plain editor (01, "The plain editor"; 02, M-103, M-104; 001, sections 1.1 to 1.5): two sequences, places, distances by trying
-//! each d, keys. Nothing here knows of stores or screens. A key works on texts without bound; only the finished text is held against
-//! its room.
+//! The plain editor (01, "The plain editor"; 02, M-101, M-103, M-104; readings, B and C; 001, sections 1.1 to 1.5): two sequences, places,
+//! distances by trying each d, keys. Nothing here knows of stores or screens. A key works on texts without bound; only the finished text
+//! is held against its room.
 
+use crate::mark::{after_deletion, after_insertion, Mark};
 use std::collections::VecDeque;
 
 pub const NEWLINE: u8 = 10;
@@ -42,6 +43,9 @@ pub enum Key {
     Quote,
     Find(Direction),
     Replace,
+    Mark,
+    Cut,
+    Paste,
 }
 
 /// The refusals that a key itself can get; the others are about sizes and bytes.
@@ -51,7 +55,7 @@ pub enum Refusal {
     Full,
 }
 
-/// A pair (l, r): the text left and right of the cursor. Recall text and replacement are such pairs too.
+/// A pair (l, r): the text left and right of the cursor. Recall text, replacement and held text are such pairs too.
 #[derive(Clone, Debug, Default, PartialEq, Eq)]
 pub struct Doc {
     pub l: Vec<u8>,
@@ -169,6 +173,10 @@ pub struct Editor {
     pub pattern: Vec<u8>,
     pub replacement: Doc,
     pub mode: Mode,
+    /// What CUT removed last, for PASTE.
+    pub held: Doc,
+    /// In the document, never in a quotation.
+    pub mark: Mark,
 }
 
 impl Editor {
@@ -185,6 +193,36 @@ impl Editor {
         self.quoted = Edited::default();
         self.mode = Mode::Main;
     }
+
+    /// Inserts a pair around the cursor of the current text. Both halves go in at one position (C10); the document's mark follows.
+    fn insert(&mut self, pair: &Doc) {
+        if self.mode == Mode::Main {
+            self.mark = after_insertion(self.mark, self.main.text.l.len(), pair.length());
+        }
+        self.current().text.join(pair);
+    }
+
+    /// Removes d bytes of the current text, from the cursor on, and gives them as a deletion's pair: (x, empty) leftward, (empty, x)
+    /// rightward. The document's mark follows.
+    fn remove(&mut self, d: usize, direction: Direction) -> Doc {
+        if self.mode == Mode::Main {
+            let cursor = self.main.text.l.len();
+            let (from, to) = match direction {
+                Direction::Left => (cursor - d, cursor),
+                Direction::Right => (cursor, cursor + d),
+            };
+            self.mark = after_deletion(self.mark, from, to);
+        }
+        let mut gone = Vec::new();
+        for _ in 0..d {
+            gone.extend(self.current().text.step(Action::Delete, direction));
+        }
+        match direction {
+            // Leftward the bytes go last one first.
+            Direction::Left => Doc { l: gone.into_iter().rev().collect(), r: VecDeque::new() },
+            Direction::Right => Doc { l: Vec::new(), r: gone.into() },
+        }
+    }
 }
 
 #[derive(Clone, Debug, PartialEq, Eq)]
@@ -197,17 +235,17 @@ pub struct Pressed {
 
 /// What a key makes of an editor whose document has room for T bytes.
 pub fn press(before: &Editor, key: Key, t: usize) -> Result<Pressed, Refusal> {
-    if refused(key) {
+    if refused(key, before.mode) {
         return Err(Refusal::Key);
     }
     let mut editor = before.clone();
     let mut went = Some(Went::default());
     match key {
-        Key::Insert(byte) => editor.current().text.l.push(byte),
-        Key::Function(action, direction, place) => went = function(editor.current(), action, direction, place),
+        Key::Insert(byte) => editor.insert(&Doc::new(&[byte], &[])),
+        Key::Function(action, direction, place) => went = function(&mut editor, action, direction, place),
         Key::Recall => {
-            let edited = editor.current();
-            edited.text.join(&edited.recall);
+            let pair = editor.current().recall.clone();
+            editor.insert(&pair);
         }
         Key::Quote => match editor.mode {
             Mode::Main => editor.mode = Mode::Quoted,
@@ -215,6 +253,13 @@ pub fn press(before: &Editor, key: Key, t: usize) -> Result<Pressed, Refusal> {
         },
         Key::Find(direction) => went = find(&mut editor, direction),
         Key::Replace => went = replace(&mut editor),
+        Key::Mark => editor.mark = Some(editor.main.text.l.len()),
+        Key::Cut => went = cut(&mut editor),
+        // "PASTE inserts the held pair", and keeps it (C13).
+        Key::Paste => {
+            let pair = editor.held.clone();
+            editor.insert(&pair);
+        }
     }
     if editor.main.text.length() > t || editor.quoted.text.length() > QUARTER {
         return Err(Refusal::Full);
@@ -224,29 +269,30 @@ pub fn press(before: &Editor, key: Key, t: usize) -> Result<Pressed, Refusal> {
     Ok(Pressed { editor, steps, lines, bell: went.is_none() })
 }
 
-/// A byte that isn't allowed, and the two of the 20 function keys that are left out.
-fn refused(key: Key) -> bool {
+/// A byte that isn't allowed, the two of the 20 function keys that are left out, and "KEY for these three in QUOTED" (02, M-101).
+fn refused(key: Key, mode: Mode) -> bool {
     match key {
         Key::Insert(byte) => !allowed(byte),
         Key::Function(Action::Delete, Direction::Left, Place::LineEnding) => true,
         Key::Function(Action::Delete, Direction::Right, Place::LineBeginning) => true,
+        Key::Mark | Key::Cut | Key::Paste => mode == Mode::Quoted,
         _ => false,
     }
 }
 
 /// How far it went; none is the bell, and "a deletion with the bell now leaves recall text unchanged, in QUOTED too" (02, M-103).
-fn function(edited: &mut Edited, action: Action, direction: Direction, place: Place) -> Option<Went> {
-    let went = distance(&edited.text, direction, |doc| is_place(doc, direction, place))?;
-    let mut gone = Vec::new();
-    for _ in 0..went.steps {
-        gone.extend(edited.text.step(action, direction));
-    }
-    if action == Action::Delete {
-        edited.recall = match direction {
-            // Leftward the bytes go last one first.
-            Direction::Left => Doc { l: gone.into_iter().rev().collect(), r: VecDeque::new() },
-            Direction::Right => Doc { l: Vec::new(), r: gone.into() },
-        };
+fn function(editor: &mut Editor, action: Action, direction: Direction, place: Place) -> Option<Went> {
+    let went = distance(&editor.current().text, direction, |doc| is_place(doc, direction, place))?;
+    match action {
+        Action::Move => {
+            for _ in 0..went.steps {
+                editor.current().text.step(Action::Move, direction);
+            }
+        }
+        Action::Delete => {
+            let gone = editor.remove(went.steps, direction);
+            editor.current().recall = gone;
+        }
     }
     Some(went)
 }
@@ -263,7 +309,7 @@ fn find(editor: &mut Editor, direction: Direction) -> Option<Went> {
     Some(went)
 }
 
-/// REPLACE reports 0.
+/// REPLACE reports 0. It "deletes, then inserts" (02, M-101), which is for the mark to know (C9).
 fn replace(editor: &mut Editor) -> Option<Went> {
     if editor.mode == Mode::Quoted {
         editor.replacement = editor.quoted.text.clone();
@@ -272,8 +318,20 @@ fn replace(editor: &mut Editor) -> Option<Went> {
     if !editor.main.text.begins_with(&editor.pattern) {
         return None;
     }
-    editor.main.text.r.drain(..editor.pattern.len());
-    editor.main.text.join(&editor.replacement);
+    editor.remove(editor.pattern.len(), Direction::Right);
+    let pair = editor.replacement.clone();
+    editor.insert(&pair);
     editor.main.recall = Doc::new(&[], &editor.pattern);
     Some(Went::default())
+}
+
+/// "CUT removes the text between cursor and mark, holds it as a deletion's pair, reports its length as steps and drops the mark; recall
+/// text stays. [...] Without a mark CUT sets the bell and does nothing else." It is none of the keys that report lines (C16).
+fn cut(editor: &mut Editor) -> Option<Went> {
+    let mark = editor.mark?;
+    let cursor = editor.main.text.l.len();
+    let (length, direction) = if mark <= cursor { (cursor - mark, Direction::Left) } else { (mark - cursor, Direction::Right) };
+    editor.held = editor.remove(length, direction);
+    editor.mark = None;
+    Some(Went { steps: length, lines: 0 })
 }

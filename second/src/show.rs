@@ -1,6 +1,6 @@
 //! Inputs and outcomes as a person reads them.
 
-use crate::bytes::{Record, Stores};
+use crate::bytes::{Record, Stores, NO_MARK};
 use crate::calls::{Call, Kind};
 use crate::core::Reply;
 use crate::paint::Painting;
@@ -47,7 +47,8 @@ fn bytes(bytes: &[u8]) -> String {
 /// The stores, the side store by its quarters; one that is too long has a fifth.
 fn areas(stores: &Stores) -> Vec<(&str, &[u8])> {
     let names = ["quotation", "its recall", "pattern", "replacement", "more"];
-    let mut areas = vec![("text", &stores.text[..]), ("recall", &stores.recall), ("screen", &stores.screen)];
+    let mut areas =
+        vec![("text", &stores.text[..]), ("recall", &stores.recall), ("held", &stores.held), ("screen", &stores.screen)];
     areas.extend(names.into_iter().zip(stores.side.chunks(256)));
     areas
 }
@@ -57,8 +58,12 @@ fn line((name, area): &(&str, &[u8])) -> String {
 }
 
 fn numbers(mut record: Record) -> String {
-    let names = ["l", "r", "ql", "qr", "rl", "rr", "qrl", "qrr", "xl", "xr", "pl", "mode", "top", "left", "rows", "columns"];
-    let shown = names.iter().zip(record.fields()).map(|(name, value)| format!(" {name}={value}"));
+    let lengths = ["l", "r", "ql", "qr", "rl", "rr", "qrl", "qrr", "xl", "xr", "pl"];
+    let others = ["mode", "top", "left", "rows", "columns", "held_left", "held_right", "mark"];
+    let shown = lengths.iter().chain(&others).zip(record.fields()).map(|(name, value)| match *value {
+        NO_MARK if *name == "mark" => " mark=none".into(),
+        value => format!(" {name}={value}"),
+    });
     format!("  record     {}\n", shown.collect::<String>())
 }
 

@@ -1,6 +1,6 @@
 //! From an input that shows a difference to the smallest one found that still does: whatever can be left out is left out.
 
-use crate::bytes::{encode, record, session, sizes_fit, Stores};
+use crate::bytes::{encode, record, session, sizes_fit, Stores, NO_MARK};
 use crate::calls::{Call, Kind};
 use crate::paint::{bytes, on_screen, Ask};
 use crate::paint_calls::PaintCall;
@@ -141,12 +141,19 @@ pub fn call(mut call: Call, differs: impl FnMut(&Call) -> bool) -> Call {
 
 /// How much there is to read in a call: lengths, bytes that are set, numbers.
 fn weight(call: &Call) -> u128 {
-    let stores = &call.stores;
+    let Stores { text, recall, held, side, screen } = &call.stores;
     let set = |store: &[u8], empty: u8| store.iter().filter(|byte| **byte != empty).count() * 4;
-    let bytes = stores.text.len() + stores.recall.len() + stores.side.len() + stores.screen.len();
-    let texts = set(&stores.text, 0) + set(&stores.recall, 0) + set(&stores.side, 0) + set(&stores.screen, 32);
-    let numbers: u128 = numbers(&mut call.kind.clone()).into_iter().map(|number| *number as u128).sum();
-    (bytes + texts) as u128 + numbers
+    let bytes = text.len() + recall.len() + held.len() + side.len() + screen.len();
+    let texts = set(text, 0) + set(recall, 0) + set(held, 0) + set(side, 0) + set(screen, 32);
+    let mut kind = call.kind;
+    let mut mark = 0;
+    if let Kind::Key { record, .. } = &mut kind {
+        // No mark is less than any, whatever its number.
+        mark = record.mark.wrapping_sub(NO_MARK) as u128;
+        record.mark = 0;
+    }
+    let numbers: u128 = numbers(&mut kind).into_iter().map(|number| *number as u128).sum();
+    (bytes + texts) as u128 + numbers + mark
 }
 
 /// Where record and stores are a session: the same key on smaller states.
@@ -165,10 +172,10 @@ fn smaller_states(call: &Call) -> Vec<Call> {
     let make = |editor: &Editor, t: usize, h: usize, w: usize, from: Offsets| {
         let seen = virtual_text(editor);
         let at = policy(&seen, from, h, w);
-        let (text, recall, side) = encode(editor, t);
+        let (text, recall, held, side) = encode(editor, t);
         let same = (h, w) == (given.rows, given.columns);
         let screen = if same { call.stores.screen.clone() } else { window(&seen, at, h, w) };
-        Call { kind: Kind::Key { record: record(editor, at, h, w), numbers }, stores: Stores { text, recall, side, screen } }
+        Call { kind: Kind::Key { record: record(editor, at, h, w), numbers }, stores: Stores { text, recall, held, side, screen } }
     };
     let here = Offsets { r: given.top, c: given.left };
     let mut all = vec![make(&editor, t, h, w, Offsets::default())];
@@ -177,9 +184,9 @@ fn smaller_states(call: &Call) -> Vec<Call> {
         let mut shorter = |text: Vec<u8>| {
             let mut texts = texts.clone();
             texts[i] = text;
-            let editor = assemble(&editor, texts);
-            let used = editor.main.text.length().max(editor.main.recall.length()).max(1);
-            all.extend(less(t, used).chain([t]).map(|t| make(&editor, t, h, w, here)));
+            for editor in assembled(&editor, texts) {
+                all.extend(less(t, used(&editor)).chain([t]).map(|t| make(&editor, t, h, w, here)));
+            }
         };
         let mut run = text.len();
         while run > 0 {
@@ -191,33 +198,56 @@ fn smaller_states(call: &Call) -> Vec<Call> {
             shorter([&text[..j], &text[j + 1..]].concat());
         }
     }
-    let used = editor.main.text.length().max(editor.main.recall.length()).max(1);
-    all.extend(less(t, used).map(|t| make(&editor, t, h, w, here)));
+    all.extend(marks(&editor).into_iter().map(|mark| make(&Editor { mark, ..editor.clone() }, t, h, w, here)));
+    all.extend(less(t, used(&editor)).map(|t| make(&editor, t, h, w, here)));
     all.extend(less(h, 1).map(|h| make(&editor, t, h, w, here)));
     all.extend(less(w, 1).map(|w| make(&editor, t, h, w, here)));
     all
 }
 
-/// The eleven texts of a state, in the record's order.
+/// The least T that this state fits into.
+fn used(editor: &Editor) -> usize {
+    [&editor.main.text, &editor.main.recall, &editor.held].map(Doc::length).into_iter().fold(1, usize::max)
+}
+
+/// No mark, and marks further to the left.
+fn marks(editor: &Editor) -> Vec<Option<usize>> {
+    editor.mark.map_or(Vec::new(), |mark| [None].into_iter().chain(less(mark, 0).map(Some)).collect())
+}
+
+/// The thirteen texts of a state, in the record's order.
 fn parts(editor: &Editor) -> Vec<Vec<u8>> {
     let docs = [&editor.main.text, &editor.quoted.text, &editor.main.recall, &editor.quoted.recall, &editor.replacement];
-    let mut parts: Vec<Vec<u8>> = docs.iter().flat_map(|doc| [doc.l.clone(), doc.r.iter().copied().collect()]).collect();
+    let halves = |doc: &Doc| [doc.l.clone(), doc.r.iter().copied().collect()];
+    let mut parts: Vec<Vec<u8>> = docs.into_iter().flat_map(halves).collect();
     parts.push(editor.pattern.clone());
+    parts.extend(halves(&editor.held));
     parts
 }
 
-fn assemble(editor: &Editor, parts: Vec<Vec<u8>>) -> Editor {
+/// The state with these texts. Where the document is shorter now, the mark may have been left or right of what went.
+fn assembled(editor: &Editor, parts: Vec<Vec<u8>>) -> Vec<Editor> {
     let doc = |i: usize| Doc::new(&parts[i], &parts[i + 1]);
-    Editor {
+    let mut shorter = Editor {
         main: Edited { text: doc(0), recall: doc(4) },
         quoted: Edited { text: doc(2), recall: doc(6) },
         replacement: doc(8),
         pattern: parts[10].clone(),
-        mode: editor.mode,
+        held: doc(11),
+        ..editor.clone()
+    };
+    let end = shorter.main.text.length();
+    let gone = editor.main.text.length() - end;
+    shorter.mark = editor.mark.map(|mark| mark.min(end));
+    let moved = Editor { mark: editor.mark.map(|mark| mark.saturating_sub(gone)), ..shorter.clone() };
+    if moved == shorter {
+        vec![shorter]
+    } else {
+        vec![shorter, moved]
     }
 }
 
-/// All numbers of a call: those of the opening, or the record's 16 and the key's.
+/// All numbers of a call: those of the opening, or the record's 19 and the key's.
 fn numbers(kind: &mut Kind) -> Vec<&mut usize> {
     match kind {
         Kind::Open { n, h, w } => vec![n, h, w],
@@ -246,6 +276,8 @@ fn smaller_bytes(call: &Call) -> Vec<Call> {
         let zero = |call: &mut Call, lengths: [usize; 2]| lengths.iter().for_each(|i| *numbers(&mut call.kind)[*i] = 0);
         with(&|call| (call.stores.text.fill(0), zero(call, [0, 1])).1);
         with(&|call| (call.stores.recall.fill(0), zero(call, [4, 5])).1);
+        with(&|call| (call.stores.held.fill(0), zero(call, [16, 17])).1);
+        with(&|call| *numbers(&mut call.kind)[18] = NO_MARK);
         for (quarter, lengths) in [[2, 3], [6, 7], [10, 10], [8, 9]].into_iter().enumerate() {
             with(&|call| {
                 call.stores.side.chunks_mut(256).skip(quarter).take(1).for_each(|area| area.fill(0));
@@ -253,16 +285,18 @@ fn smaller_bytes(call: &Call) -> Vec<Call> {
             });
         }
     }
-    // Out of the middle of the text store, where a gap is; the recall store follows.
+    // Out of the middle of the text store, where a gap is; the two stores of its length follow.
     for t in less(call.stores.text.len(), 0) {
         with(&|Call { stores, .. }| {
             stores.text.drain(t / 2..t / 2 + stores.text.len() - t);
             stores.recall.truncate(t);
+            stores.held.truncate(t);
         });
     }
     let set = |store: &[u8]| (0..store.len()).filter(|i| store[*i] != 0).take(16).collect::<Vec<_>>();
     set(&call.stores.text).into_iter().for_each(|i| with(&|call| call.stores.text[i] = 0));
     set(&call.stores.recall).into_iter().for_each(|i| with(&|call| call.stores.recall[i] = 0));
+    set(&call.stores.held).into_iter().for_each(|i| with(&|call| call.stores.held[i] = 0));
     set(&call.stores.side).into_iter().for_each(|i| with(&|call| call.stores.side[i] = 0));
     all
 }

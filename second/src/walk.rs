@@ -5,6 +5,8 @@ use crate::generate::{columns, function, length, letters, rows, text, DIRECTIONS
 use crate::plain::{press, Action, Direction, Doc, Edited, Editor, Key, Mode, Place, QUARTER};
 use crate::random::Random;
 
+mod marks;
+
 /// A session to be walked through: an opening and the keys after it.
 #[derive(Clone, Debug)]
 pub struct Walk {
@@ -51,7 +53,7 @@ struct Writer {
 type Phrase = fn(&mut Writer);
 
 /// The phrases, each with how often it comes.
-const PHRASES: [(usize, Phrase); 12] = [
+const PHRASES: [(usize, Phrase); 15] = [
     (3, Writer::command),
     (30, Writer::any),
     (20, Writer::type_some),
@@ -64,6 +66,9 @@ const PHRASES: [(usize, Phrase); 12] = [
     (14, Writer::ring_and_recall),
     (12, Writer::find),
     (12, Writer::replace),
+    (16, Writer::change_at_mark),
+    (8, Writer::replace_at_mark),
+    (14, Writer::cut_and_paste),
     (8, Writer::quotation),
     (8, Writer::fill),
     (3, Writer::be_refused),
@@ -88,25 +93,31 @@ impl Writer {
     }
 
     fn any(&mut self) {
-        let key = match self.random.weighted(&[30, 30, 10, 6, 6, 6, 10]) {
+        let key = match self.random.weighted(&[30, 30, 10, 6, 6, 6, 10, 4, 5, 5]) {
             0 => self.letter(),
             1 => function(&mut self.random),
             2 => Key::Recall,
             3 => Key::Quote,
             4 => Key::Find(Direction::Right),
             5 => Key::Find(Direction::Left),
-            _ => Key::Replace,
+            6 => Key::Replace,
+            7 => Key::Mark,
+            8 => Key::Cut,
+            _ => Key::Paste,
         };
         self.press(key);
     }
 
     fn command(&mut self) {
-        let key = match self.random.weighted(&[20, 50, 12, 12, 3, 3]) {
+        let key = match self.random.weighted(&[20, 50, 12, 12, 3, 3, 2, 2, 2]) {
             0 => Key::Quote,
             1 => Key::Find(Direction::Right),
             2 => Key::Find(Direction::Left),
             3 => Key::Recall,
             4 => Key::Replace,
+            5 => Key::Mark,
+            6 => Key::Cut,
+            7 => Key::Paste,
             _ => self.letter(),
         };
         self.press(key);
@@ -252,7 +263,7 @@ impl Writer {
         let n = self.random.pick(&[room, room.saturating_sub(1), room + 1]);
         let text = text(&mut self.random, self.letters, n);
         self.type_text(&text);
-        let key = self.random.pick(&[Key::Recall, Key::Replace, Key::Quote]);
+        let key = self.random.pick(&[Key::Recall, Key::Replace, Key::Quote, Key::Paste]);
         self.press(key);
     }
 

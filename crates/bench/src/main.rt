@@ -76,19 +76,20 @@ fn play(
     input: &[u8],
     text: &mut [u8],
     recall: &mut [u8],
+    held: &mut [u8],
     side: &mut [u8],
     screen: &mut [u8],
     out: &mut [u8],
 )
     requires { ⌜ h .at + h .length < length (now input) ⌝ }
-    requires { ⌜ AsAsked h (lent (now text) (now recall) (now side) (now screen)) ⌝ }
+    requires { ⌜ AsAsked h (lent (now text) (now recall) (now held) (now side) (now screen)) ⌝ }
     requires { ⌜ 17408 ≤ length (now out) ⌝ }
 {
-    let mut turn = opening(h, input, text, recall, side, screen, out);
+    let mut turn = opening(h, input, text, recall, held, side, screen, out);
     write_front(out, turn.printed);
     let mut going = turn.going;
     while going {
-        turn = next_turn(turn, input, text, recall, side, screen, out);
+        turn = next_turn(turn, input, text, recall, held, side, screen, out);
         write_front(out, turn.printed);
         going = turn.going;
     }
@@ -101,6 +102,7 @@ fn lend(h: Header, input: &[u8])
 {
     let mut text = [0u8; 4096];
     let mut recall = [0u8; 4096];
+    let mut held = [0u8; 4096];
     let mut side = [0u8; 4 * QUARTER];
     let mut screen = [0u8; 16384];
     let mut out = [0u8; 17408];
@@ -111,6 +113,7 @@ fn lend(h: Header, input: &[u8])
         input,
         &mut text[..store],
         &mut recall[..store],
+        &mut held[..store],
         &mut side,
         &mut screen[..area],
         &mut out,

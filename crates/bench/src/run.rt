@@ -122,18 +122,29 @@ pub fn opening(
     input: &[u8],
     text: &mut [u8],
     recall: &mut [u8],
+    held: &mut [u8],
     side: &mut [u8],
     screen: &mut [u8],
     out: &mut [u8],
 ) -> Turn
     requires { ⌜ h .at + h .length < length (now input) ⌝ }
     requires { ⌜ 17408 ≤ length (now out) ⌝ }
-    ensures { λ t. ⌜ Does (openingTurn h (now (input .entry)) (lent (now (text .entry)) (now (recall .entry)) (now (side .entry)) (now (screen .entry)))) t
-        (lent (now (text .exit)) (now (recall .exit)) (now (side .exit)) (now (screen .exit))) (now (out .entry)) (now (out .exit)) ⌝ }
+    ensures { λ t. ⌜ Does (openingTurn h (now (input .entry))
+        (lent (now (text .entry)) (now (recall .entry)) (now (held .entry)) (now (side .entry)) (now (screen .entry)))) t
+        (lent (now (text .exit)) (now (recall .exit)) (now (held .exit)) (now (side .exit)) (now (screen .exit))) (now (out .entry)) (now (out .exit)) ⌝ }
 {
     let next = h.at + h.length + 1;
     lay_out(input, h.at, h.length, text);
-    let reply = open(h.length, h.rows, h.columns, text, recall, side, screen);
+    let reply = open(
+        h.length,
+        h.rows,
+        h.columns,
+        text,
+        recall,
+        held,
+        side,
+        screen,
+    );
     answered(
         reply,
         reply.answer.code == 0,
@@ -164,6 +175,7 @@ pub fn next_turn(
     input: &[u8],
     text: &mut [u8],
     recall: &mut [u8],
+    held: &mut [u8],
     side: &mut [u8],
     screen: &mut [u8],
     out: &mut [u8],
@@ -171,8 +183,8 @@ pub fn next_turn(
     requires { ⌜ t .at ≤ length (now input) ⌝ }
     requires { ⌜ 17408 ≤ length (now out) ⌝ }
     ensures { λ u. ⌜ Does (nextTurn (now (input .entry))
-        (stateOf t (lent (now (text .entry)) (now (recall .entry)) (now (side .entry)) (now (screen .entry))))) u
-        (lent (now (text .exit)) (now (recall .exit)) (now (side .exit)) (now (screen .exit))) (now (out .entry)) (now (out .exit)) ⌝ }
+        (stateOf t (lent (now (text .entry)) (now (recall .entry)) (now (held .entry)) (now (side .entry)) (now (screen .entry))))) u
+        (lent (now (text .exit)) (now (recall .exit)) (now (held .exit)) (now (side .exit)) (now (screen .exit))) (now (out .entry)) (now (out .exit)) ⌝ }
     ensures { λ u. ⌜ Onward t (length (now (input .entry))) u ⌝ }
 {
     let at = t.at;
@@ -180,7 +192,7 @@ pub fn next_turn(
     let reading = reading_at(input, at);
     match reading {
         Reading::Pressed(k, next) => {
-            let reply = press(session, k, text, recall, side, screen);
+            let reply = press(session, k, text, recall, held, side, screen);
             answered(
                 reply,
                 true,

@@ -12,7 +12,7 @@ use window::host_keys::function_key;
 ghost use mathlib.Core.Path.{_≡_};
 ghost use Prim.Native.Nat.{_<_};
 ghost use Rattle.gap.specs.Rules.Sequence.{sameBytes};
-ghost use Rattle.bench.specs.Rules.Names.{nameOf, combinationAt, functionOf, entryOf, functionNamed, insertNumbered, keyNamed};
+ghost use Rattle.bench.specs.Rules.Names.{nameOf, combinationAt, functionOf, entryOf, functionNamed, insertNumbered, markNamed, keyNamed};
 
 // Actions, directions and places by the numbers that the host's boundary gives them: a table of enum values would take the checker
 // five times as long.
@@ -233,6 +233,22 @@ fn insert_numbered(n: Number) -> Naming
     Naming::Named(Key::Insert(value as u8))
 }
 
+// The key of this name, if it is about the mark, or a function key.
+fn mark_named(name: &[u8]) -> Naming
+    ensures { λ k. ⌜ k ≡ markNamed (now (name .entry)) ⌝ }
+{
+    if same_bytes(name, b"mark") {
+        return Naming::Named(Key::Mark);
+    }
+    if same_bytes(name, b"cut") {
+        return Naming::Named(Key::Cut);
+    }
+    if same_bytes(name, b"paste") {
+        return Naming::Named(Key::Paste);
+    }
+    function_named(name)
+}
+
 // The key of this name.
 pub fn key_named(name: &[u8]) -> Naming
     ensures { λ k. ⌜ k ≡ keyNamed (now (name .entry)) ⌝ }
@@ -255,5 +271,5 @@ pub fn key_named(name: &[u8]) -> Naming
     if same_bytes(name, b"replace") {
         return Naming::Named(Key::Replace);
     }
-    function_named(name)
+    mark_named(name)
 }

@@ -8,6 +8,11 @@ pub mod Sides
 pub mod SideEdits
 pub mod Passages
 pub mod States
+pub mod MarkedStates
+pub mod Changes
+pub mod Marks
+pub mod Following
+pub mod Holding
 pub mod MatchTests
 pub mod MatchScans
 pub mod Quotation

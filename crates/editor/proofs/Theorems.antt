@@ -5,4 +5,6 @@ pub mod Refusals
 pub mod Recall
 pub mod LinesCrossed
 pub mod LeftTexts
+pub mod Marks
+pub mod Cuts
 pub mod Pins

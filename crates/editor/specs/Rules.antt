@@ -2,6 +2,7 @@
 pub mod Refusals
 pub mod Places
 pub mod Passages
+pub mod Marks
 pub mod Plain
 pub mod Keys
 pub mod Bytes

@@ -2,4 +2,6 @@
 pub mod KeyExamples
 pub mod KeyPins
 pub mod QuotationPins
+pub mod MarkPins
+pub mod CutPins
 pub mod SessionPins

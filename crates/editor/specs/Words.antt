@@ -15,10 +15,13 @@ pub use Rattle.editor.specs.declared.Passage.{Passage}
 pub use Rattle.editor.specs.declared.Passage.the-variants.{Reached, Nowhere}
 pub use Rattle.editor.specs.declared.Neighbour.{Neighbour}
 pub use Rattle.editor.specs.declared.Neighbour.the-variants.{Nothing, Space, Newline, Other}
+pub use Rattle.editor.specs.declared.Marking.{Marking}
+pub use Rattle.editor.specs.declared.Marking.the-variants.{Unmarked, At}
 pub use Rattle.editor.specs.declared.Mode.{Mode}
 pub use Rattle.editor.specs.declared.Mode.the-variants.{Main, Quoted}
 pub use Rattle.editor.specs.declared.Key.{Key}
-pub use Rattle.editor.specs.declared.Key.the-variants.{Insert, Function, Recall, Quote, Find, Replace}
+pub use Rattle.editor.specs.declared.Key.the-variants.{Insert, Function, Recall, Quote, Find, Replace, Mark, Cut, Paste}
 pub use Rattle.editor.specs.declared.Sizes.{Sizes}
 pub use Rattle.editor.specs.declared.Lengths.{Lengths}
 pub use Rattle.editor.specs.declared.Report.{Report}
+pub use Rattle.editor.specs.declared.Exchange.{Exchange}

@@ -1,4 +1,4 @@
-// The key call on the three stores.
+// The key call on the four stores.
 use crate::Action;
 use crate::Edit;
 use crate::EditorReply;
@@ -6,6 +6,10 @@ use crate::Key;
 use crate::Lengths;
 use crate::Mode;
 use crate::Place;
+use crate::marks::cut_key;
+use crate::marks::followed;
+use crate::marks::mark_key;
+use crate::marks::paste_key;
 use crate::quotations::edit_quotation;
 use crate::quotations::quote_key;
 use crate::records::lifted;
@@ -16,9 +20,9 @@ use crate::searches::replace_key;
 use crate::sides::on_side;
 use gap::Direction;
 ghost use mathlib.Core.Path.{_≡_};
-ghost use Rattle.editor.specs.Rules.Keys.{soundFunction, soundKey, onSide, pressed, bounded, key};
+ghost use Rattle.editor.specs.Rules.Keys.{soundFunction, isMain, soundKey, onSide, acted, bounded, key};
 ghost use Rattle.editor.specs.Rules.Bytes.{quarter};
-ghost use Rattle.editor.specs.Wording.Promise.{editing, Sound, stores, Edits};
+ghost use Rattle.editor.specs.Wording.Promise.{editing, Sound, stores, Edits, SoundUnheld, EditsUnheld};
 ghost use mathlib.Core.Bool.{false};
 use gap::Search;
 use gap::runs::copy_at;
@@ -57,8 +61,17 @@ pub fn sound_function(action: Action, way: Direction, place: Place) -> bool
     }
 }
 
-pub fn sound_key(k: Key) -> bool
-    ensures { λ ok. ⌜ ok ≡ soundKey k ⌝ }
+fn is_main(mode: Mode) -> bool
+    ensures { λ ok. ⌜ ok ≡ isMain mode ⌝ }
+{
+    match mode {
+        Mode::Main => true,
+        Mode::Quoted => false,
+    }
+}
+
+pub fn sound_key(mode: Mode, k: Key) -> bool
+    ensures { λ ok. ⌜ ok ≡ soundKey mode k ⌝ }
 {
     match k {
         Key::Insert(b) => is_allowed(b),
@@ -67,6 +80,9 @@ pub fn sound_key(k: Key) -> bool
         Key::Quote => true,
         Key::Find(_) => true,
         Key::Replace => true,
+        Key::Mark => is_main(mode),
+        Key::Cut => is_main(mode),
+        Key::Paste => is_main(mode),
     }
 }
 
@@ -74,10 +90,9 @@ pub fn sound_key(k: Key) -> bool
 
 // A key on the side that the mode names.
 fn edit_key(e: Edit, n: Lengths, text: &mut [u8], recall: &mut [u8], side: &mut [u8]) -> EditorReply
-    requires { ⌜ Sound quarter n (stores (now text) (now recall) (now side)) ⌝ }
-    ensures { λ r. ⌜ Edits r n (λ T p. bounded T quarter (onSide (editing e) p))
-        (stores (now (text .entry)) (now (recall .entry)) (now (side .entry)))
-        (stores (now (text .exit)) (now (recall .exit)) (now (side .exit))) ⌝ }
+    requires { ⌜ SoundUnheld n (now text) (now recall) (now side) ⌝ }
+    ensures { λ r. ⌜ EditsUnheld r n (λ T p. bounded T quarter (onSide (editing e) p)) (now (text .entry)) (now (recall .entry)) (now (side .entry))
+        (now (text .exit)) (now (recall .exit)) (now (side .exit)) ⌝ }
 {
     let mode = n.mode;
     let main = n.main;
@@ -88,18 +103,19 @@ fn edit_key(e: Edit, n: Lengths, text: &mut [u8], recall: &mut [u8], side: &mut 
     }
 }
 
-// A sound key on a session.
-fn press_sound(
+// A sound key on a session, but for the mark.
+fn act(
     n: Lengths,
     k: Key,
     text: &mut [u8],
     recall: &mut [u8],
+    held: &mut [u8],
     side: &mut [u8],
 ) -> EditorReply
-    requires { ⌜ Sound quarter n (stores (now text) (now recall) (now side)) ⌝ }
-    ensures { λ r. ⌜ Edits r n (λ T p. bounded T quarter (pressed k p))
-        (stores (now (text .entry)) (now (recall .entry)) (now (side .entry)))
-        (stores (now (text .exit)) (now (recall .exit)) (now (side .exit))) ⌝ }
+    requires { ⌜ Sound quarter n (stores (now text) (now recall) (now held) (now side)) ⌝ }
+    ensures { λ r. ⌜ Edits r n (λ T p. bounded T quarter (acted k p))
+        (stores (now (text .entry)) (now (recall .entry)) (now (held .entry)) (now (side .entry)))
+        (stores (now (text .exit)) (now (recall .exit)) (now (held .exit)) (now (side .exit))) ⌝ }
 {
     match k {
         Key::Insert(b) => edit_key(Edit::Insert(b), n, text, recall, side),
@@ -114,6 +130,9 @@ fn press_sound(
         Key::Quote => quote_key(n, side),
         Key::Find(way) => find_key(way, n, text, side),
         Key::Replace => replace_key(n, text, recall, side),
+        Key::Mark => mark_key(n),
+        Key::Cut => cut_key(n, text, held),
+        Key::Paste => paste_key(n, text, held),
     }
 }
 
@@ -123,15 +142,22 @@ pub fn press_session(
     k: Key,
     text: &mut [u8],
     recall: &mut [u8],
+    held: &mut [u8],
     side: &mut [u8],
 ) -> EditorReply
-    requires { ⌜ Sound quarter n (stores (now text) (now recall) (now side)) ⌝ }
+    requires { ⌜ Sound quarter n (stores (now text) (now recall) (now held) (now side)) ⌝ }
     ensures { λ r. ⌜ Edits r n (λ T p. key T quarter k p)
-        (stores (now (text .entry)) (now (recall .entry)) (now (side .entry)))
-        (stores (now (text .exit)) (now (recall .exit)) (now (side .exit))) ⌝ }
+        (stores (now (text .entry)) (now (recall .entry)) (now (held .entry)) (now (side .entry)))
+        (stores (now (text .exit)) (now (recall .exit)) (now (held .exit)) (now (side .exit))) ⌝ }
 {
-    if !sound_key(k) {
+    let mode = n.mode;
+    if !sound_key(mode, k) {
         return unedited(KEY, n);
     }
-    press_sound(n, k, text, recall, side)
+    let r = act(n, k, text, recall, held, side);
+    let code = r.code;
+    if code != 0 {
+        return r;
+    }
+    followed(k, n, r)
 }

@@ -1,6 +1,7 @@
 // The editor layer: keys on a document, a quotation and their recall texts, without a screen.
 pub mod finds;
 pub mod keys;
+pub mod marks;
 pub mod passages;
 pub mod places;
 pub mod quotations;
@@ -41,6 +42,12 @@ pub enum Passage {
     Nowhere,
 }
 
+// The mark: none, or one at a position between bytes of the document, counted from its beginning.
+pub enum Marking {
+    Unmarked,
+    At(usize),
+}
+
 // Which text the keys act on: the document or the quotation.
 pub enum Mode {
     Main,
@@ -55,6 +62,9 @@ pub enum Key {
     Quote,
     Find(Direction),
     Replace,
+    Mark,
+    Cut,
+    Paste,
 }
 
 // The keys that act on one side, the document's or the quotation's.
@@ -76,7 +86,7 @@ pub struct Sizes {
 }
 
 // The record without the window's part: the document's side and the quotation's, both halves of the replacement (xl, xr),
-// the pattern's length and the mode.
+// the pattern's length, the mode, both halves of the held text (hl, hr) and the mark.
 pub struct Lengths {
     pub main: Sizes,
     pub quoted: Sizes,
@@ -84,6 +94,9 @@ pub struct Lengths {
     pub xr: usize,
     pub pl: usize,
     pub mode: Mode,
+    pub hl: usize,
+    pub hr: usize,
+    pub mark: Marking,
 }
 
 // What a key reports: its steps, the newlines that these pass, and its bell.
@@ -91,6 +104,13 @@ pub struct Report {
     pub steps: usize,
     pub lines: usize,
     pub bell: bool,
+}
+
+// A change of the document in numbers: so many bytes before the cursor go and so many behind it, and so many come.
+pub struct Exchange {
+    pub before: usize,
+    pub behind: usize,
+    pub come: usize,
 }
 
 // What a key on one side replies: refused as full, or its report, and the sizes now.

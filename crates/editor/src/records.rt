@@ -1,6 +1,7 @@
 // Reports, replies and records, each built in one place.
 use crate::EditorReply;
 use crate::Lengths;
+use crate::Marking;
 use crate::Mode;
 use crate::Report;
 use crate::SideReply;
@@ -10,9 +11,10 @@ use gap::Direction;
 ghost use mathlib.Core.Path.{_≡_};
 ghost use Prim.Native.Nat.{_+_, _^_, _≤_, _<_};
 ghost use Rattle.editor.specs.Rules.Plain.{went};
-ghost use Rattle.editor.specs.Rules.Bytes.{unedited, openingLengths};
+ghost use Rattle.editor.specs.Rules.Bytes.{unedited, openingLengths, holdingSizes};
 ghost use Rattle.editor.specs.Wording.Promise.{roomOf, movedBy, fullReply, doneReply, replyOf, sizedIn, cleared};
 ghost use Rattle.editor.specs.Wording.Promise.{patternTaken, replacementTaken};
+ghost use Rattle.editor.specs.Wording.Marks.{markedAt, heldIn, heldReply};
 
 // ---- Reports
 
@@ -164,6 +166,9 @@ pub fn opening_lengths(n: usize) -> Lengths
         xr: 0,
         pl: 0,
         mode: Mode::Main,
+        hl: 0,
+        hr: 0,
+        mark: Marking::Unmarked,
     }
 }
 
@@ -172,6 +177,7 @@ pub fn cleared(n: Lengths, mode: Mode) -> Lengths
     ensures { λ m. ⌜ m ≡ cleared mode n ⌝ }
 {
     let main = n.main;
+    let mark = n.mark;
     Lengths {
         main: main,
         quoted: NO_SIZES,
@@ -179,6 +185,9 @@ pub fn cleared(n: Lengths, mode: Mode) -> Lengths
         xr: n.xr,
         pl: n.pl,
         mode: mode,
+        hl: n.hl,
+        hr: n.hr,
+        mark: mark,
     }
 }
 
@@ -214,4 +223,63 @@ pub fn replacement_taken(n: Lengths) -> Lengths
             m
         }
     }
+}
+
+// ---- The mark and the held text
+
+// The lengths with another mark.
+pub fn marked_at(n: Lengths, mark: Marking) -> Lengths
+    ensures { λ m. ⌜ m ≡ markedAt mark n ⌝ }
+{
+    let main = n.main;
+    let quoted = n.quoted;
+    let mode = n.mode;
+    Lengths {
+        main: main,
+        quoted: quoted,
+        xl: n.xl,
+        xr: n.xr,
+        pl: n.pl,
+        mode: mode,
+        hl: n.hl,
+        hr: n.hr,
+        mark: mark,
+    }
+}
+
+// The document's sizes with the held pair in the place of its recall text.
+pub fn holding_sizes(n: Lengths) -> Sizes
+    ensures { λ m. ⌜ m ≡ holdingSizes n ⌝ }
+{
+    let mut m = n.main;
+    m.rl = n.hl;
+    m.rr = n.hr;
+    m
+}
+
+// The lengths with such sizes put in.
+fn held_in(n: Lengths, sizes: Sizes) -> Lengths
+    ensures { λ m. ⌜ m ≡ heldIn sizes n ⌝ }
+{
+    let mut main = n.main;
+    main.l = sizes.l;
+    main.r = sizes.r;
+    let mut m = n;
+    m.main = main;
+    m.hl = sizes.rl;
+    m.hr = sizes.rr;
+    m
+}
+
+// A key on the document with the held pair in the place of its recall text, as a reply of the whole layer.
+pub fn lifted_held(n: Lengths, t: SideReply) -> EditorReply
+    ensures { λ r. ⌜ r ≡ heldReply n t ⌝ }
+{
+    let is_full = t.full;
+    if is_full {
+        return unedited(FULL, n);
+    }
+    let report = t.report;
+    let sizes = t.sizes;
+    edited(report, held_in(n, sizes))
 }

@@ -28,8 +28,8 @@ ghost use lib.Dec.{leb};
 ghost use lib.ListN.{length};
 ghost use Rattle.editor.specs.Rules.Plain.{done};
 ghost use Rattle.editor.specs.Rules.Keys.{searched, found, substituted, replaced, bounded};
-ghost use Rattle.editor.specs.Rules.Bytes.{quarter, plainOf};
-ghost use Rattle.editor.specs.Wording.Promise.{Sound, stores, Edits, Searchable, EditsTexts, Substitutes};
+ghost use Rattle.editor.specs.Rules.Bytes.{quarter};
+ghost use Rattle.editor.specs.Wording.Promise.{SoundUnheld, EditsUnheld, Searchable, EditsTexts, SubstitutesUnheld};
 
 // A search with the stored pattern: to the nearest match, or the bell.
 fn search(way: Direction, n: Lengths, text: &mut [u8], side: &[u8]) -> EditorReply
@@ -71,11 +71,9 @@ fn substitute(
     recall: &mut [u8],
     side: &[u8],
 ) -> EditorReply
-    requires { ⌜ Sound quarter n (stores (now text) (now recall) (now side)) ⌝ }
-    requires { ⌜ Substitutes here (length (now text)) (plainOf quarter n (stores (now text) (now recall) (now side))) ⌝ }
-    ensures { λ r. ⌜ Edits r n (λ T p. done (substituted p))
-        (stores (now (text .entry)) (now (recall .entry)) (now (side .entry)))
-        (stores (now (text .exit)) (now (recall .exit)) (now (side .entry))) ⌝ }
+    requires { ⌜ SubstitutesUnheld here n (now text) (now recall) (now side) ⌝ }
+    ensures { λ r. ⌜ EditsUnheld r n (λ T p. done (substituted p)) (now (text .entry)) (now (recall .entry)) (now (side .entry))
+        (now (text .exit)) (now (recall .exit)) (now (side .entry)) ⌝ }
 {
     if !here {
         return edited(RANG, n);
@@ -113,10 +111,9 @@ fn exchange_fits(here: bool, size: usize, n: Lengths) -> bool
 
 // REPLACE: FULL is tested before anything is written; in QUOTED the quotation then becomes the replacement.
 pub fn replace_key(n: Lengths, text: &mut [u8], recall: &mut [u8], side: &mut [u8]) -> EditorReply
-    requires { ⌜ Sound quarter n (stores (now text) (now recall) (now side)) ⌝ }
-    ensures { λ r. ⌜ Edits r n (λ T p. bounded T quarter (replaced p))
-        (stores (now (text .entry)) (now (recall .entry)) (now (side .entry)))
-        (stores (now (text .exit)) (now (recall .exit)) (now (side .exit))) ⌝ }
+    requires { ⌜ SoundUnheld n (now text) (now recall) (now side) ⌝ }
+    ensures { λ r. ⌜ EditsUnheld r n (λ T p. bounded T quarter (replaced p)) (now (text .entry)) (now (recall .entry)) (now (side .entry))
+        (now (text .exit)) (now (recall .exit)) (now (side .exit)) ⌝ }
 {
     let mode = n.mode;
     let main = n.main;

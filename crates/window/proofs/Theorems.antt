@@ -16,7 +16,9 @@ pub mod OneOutcome
 pub mod Promises
 pub mod Pins
 pub mod OverAndBack
+pub mod Marks
 pub mod Boundary
 pub mod HostTerminal
 pub mod ShutOut
 pub mod RecallCalls
+pub mod CutCalls

@@ -12,10 +12,12 @@ pub use Rattle.editor.specs.declared.Action.{Action}
 pub use Rattle.editor.specs.declared.Action.the-variants.{Move, Delete}
 pub use Rattle.editor.specs.declared.Place.{Place}
 pub use Rattle.editor.specs.declared.Place.the-variants.{Character, Word, LineBeginning, LineEnding, Document}
+pub use Rattle.editor.specs.declared.Marking.{Marking}
+pub use Rattle.editor.specs.declared.Marking.the-variants.{Unmarked, At}
 pub use Rattle.editor.specs.declared.Mode.{Mode}
 pub use Rattle.editor.specs.declared.Mode.the-variants.{Main, Quoted}
 pub use Rattle.editor.specs.declared.Key.{Key}
-pub use Rattle.editor.specs.declared.Key.the-variants.{Insert, Function, Recall, Quote, Find, Replace}
+pub use Rattle.editor.specs.declared.Key.the-variants.{Insert, Function, Recall, Quote, Find, Replace, Mark, Cut, Paste}
 pub use Rattle.editor.specs.declared.Sizes.{Sizes}
 pub use Rattle.editor.specs.declared.Lengths.{Lengths}
 pub use Rattle.editor.specs.declared.Report.{Report}

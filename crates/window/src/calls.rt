@@ -1,4 +1,4 @@
-// The opening call and the key call: every record, every four stores and every key get an answer.
+// The opening call and the key call: every record, every five stores and every key get an answer.
 use crate::Answer;
 use crate::Frame;
 use crate::Reply;
@@ -7,8 +7,8 @@ use crate::SessionTest;
 use crate::cursor::cursor;
 use crate::cursor::follow;
 use crate::cursor::is_visible;
-use crate::cursor::newlines_after;
 use crate::cursor::newlines_left;
+use crate::cursor::newlines_now;
 use crate::painter::refresh;
 use editor::EditorReply;
 use editor::Key;
@@ -49,25 +49,26 @@ pub fn tabled_stores(
     w: usize,
     text: &[u8],
     recall: &[u8],
+    held: &[u8],
     side: &[u8],
     screen: &[u8],
 ) -> bool
-    ensures { λ ok. ⌜ ok ≡ tabled h w (lent (now (text .entry)) (now (recall .entry)) (now (side .entry)) (now (screen .entry))) ⌝ }
+    ensures { λ ok. ⌜ ok ≡ tabled h w (lent (now (text .entry)) (now (recall .entry)) (now (held .entry)) (now (side .entry)) (now (screen .entry))) ⌝ }
 {
     if !rows_and_columns(h, w) {
         return false;
     }
-    sized_stores(text, recall, side) & (screen.len() == h * w)
+    sized_stores(text, recall, held, side) & (screen.len() == h * w)
 }
 
 // Whether record and stores are a session. The newlines counted on the way are handed on.
-pub fn session_test(s: Session, text: &[u8], recall: &[u8], side: &[u8]) -> SessionTest
-    requires { ⌜ sized quarter (stores (now text) (now recall) (now side)) ≡ true ⌝ }
-    ensures { λ t. ⌜ t ≡ sessionTest s (stores (now (text .entry)) (now (recall .entry)) (now (side .entry))) ⌝ }
+pub fn session_test(s: Session, text: &[u8], recall: &[u8], held: &[u8], side: &[u8]) -> SessionTest
+    requires { ⌜ sized quarter (stores (now text) (now recall) (now held) (now side)) ≡ true ⌝ }
+    ensures { λ t. ⌜ t ≡ sessionTest s (stores (now (text .entry)) (now (recall .entry)) (now (held .entry)) (now (side .entry))) ⌝ }
 {
     let lengths = s.lengths;
     let frame = s.frame;
-    if !editor_ok(lengths, text, recall, side) {
+    if !editor_ok(lengths, text, recall, held, side) {
         return SessionTest::Failed;
     }
     let above = newlines_left(lengths, text);
@@ -94,7 +95,7 @@ fn refusal(code: usize, place: usize) -> Answer
     }
 }
 
-// A refused opening: a record of zeros.
+// A refused opening: a record of zeros with no mark.
 fn unopened(code: usize, place: usize) -> Reply
     ensures { λ r. ⌜ r ≡ unopenedReply code place ⌝ }
 {
@@ -131,13 +132,14 @@ fn open_sound(
     w: usize,
     text: &mut [u8],
     recall: &mut [u8],
+    held: &mut [u8],
     side: &mut [u8],
     screen: &mut [u8],
 ) -> Reply
-    requires { ⌜ tabled h w (lent (now text) (now recall) (now side) (now screen)) ≡ true ⌝ }
+    requires { ⌜ tabled h w (lent (now text) (now recall) (now held) (now side) (now screen)) ≡ true ⌝ }
     requires { ⌜ n ≤ length (now text) ⌝ }
-    ensures { λ r. ⌜ called r (lent (now (text .exit)) (now (recall .exit)) (now (side .exit)) (now (screen .exit)))
-        ≡ openedText n h w (lent (now (text .entry)) (now (recall .entry)) (now (side .entry)) (now (screen .entry))) ⌝ }
+    ensures { λ r. ⌜ called r (lent (now (text .exit)) (now (recall .exit)) (now (held .exit)) (now (side .exit)) (now (screen .exit)))
+        ≡ openedText n h w (lent (now (text .entry)) (now (recall .entry)) (now (held .entry)) (now (side .entry)) (now (screen .entry))) ⌝ }
 {
     let frame = Frame {
         r: 0,
@@ -145,7 +147,7 @@ fn open_sound(
         h: h,
         w: w,
     };
-    let lengths = open_stores(n, text, recall, side);
+    let lengths = open_stores(n, text, recall, held, side);
     refresh(lengths, frame, text, side, screen);
     Reply {
         answer: Answer {
@@ -171,20 +173,21 @@ pub fn open(
     w: usize,
     text: &mut [u8],
     recall: &mut [u8],
+    held: &mut [u8],
     side: &mut [u8],
     screen: &mut [u8],
 ) -> Reply
-    ensures { λ r. ⌜ OpenPromise n h w (lent (now (text .entry)) (now (recall .entry)) (now (side .entry)) (now (screen .entry)))
-        (called r (lent (now (text .exit)) (now (recall .exit)) (now (side .exit)) (now (screen .exit)))) ⌝ }
+    ensures { λ r. ⌜ OpenPromise n h w (lent (now (text .entry)) (now (recall .entry)) (now (held .entry)) (now (side .entry)) (now (screen .entry)))
+        (called r (lent (now (text .exit)) (now (recall .exit)) (now (held .exit)) (now (side .exit)) (now (screen .exit)))) ⌝ }
 {
-    if !tabled_stores(h, w, text, recall, side, screen) {
+    if !tabled_stores(h, w, text, recall, held, side, screen) {
         return unopened(SIZE, 0);
     }
     if text.len() < n {
         return unopened(LONG, 0);
     }
     let Search::Reached(i) = bad_byte(&text[..n]) else {
-        return open_sound(n, h, w, text, recall, side, screen);
+        return open_sound(n, h, w, text, recall, held, side, screen);
     };
     unopened(TEXT, i)
 }
@@ -233,27 +236,28 @@ pub fn press(
     k: Key,
     text: &mut [u8],
     recall: &mut [u8],
+    held: &mut [u8],
     side: &mut [u8],
     screen: &mut [u8],
 ) -> Reply
-    ensures { λ r. ⌜ KeyPromise s k (lent (now (text .entry)) (now (recall .entry)) (now (side .entry)) (now (screen .entry)))
-        (called r (lent (now (text .exit)) (now (recall .exit)) (now (side .exit)) (now (screen .exit)))) ⌝ }
+    ensures { λ r. ⌜ KeyPromise s k (lent (now (text .entry)) (now (recall .entry)) (now (held .entry)) (now (side .entry)) (now (screen .entry)))
+        (called r (lent (now (text .exit)) (now (recall .exit)) (now (held .exit)) (now (side .exit)) (now (screen .exit)))) ⌝ }
 {
     let lengths = s.lengths;
     let frame = s.frame;
     let h = frame.h;
     let w = frame.w;
-    if !tabled_stores(h, w, text, recall, side, screen) {
+    if !tabled_stores(h, w, text, recall, held, side, screen) {
         return turned_down(SIZE, s);
     }
-    let SessionTest::Passed(above) = session_test(s, text, recall, side) else {
+    let SessionTest::Passed(above) = session_test(s, text, recall, held, side) else {
         return turned_down(SESSION, s);
     };
-    let done = press_session(lengths, k, text, recall, side);
+    let done = press_session(lengths, k, text, recall, held, side);
     let code = done.code;
     if 0 < code {
         return turned_down(code, s);
     }
-    let below = newlines_after(above, lengths.main, done, text);
+    let below = newlines_now(k, above, lengths.main, done, text);
     show(frame, below, done, text, side, screen)
 }

@@ -3,14 +3,17 @@
 use crate::Frame;
 use crate::Spot;
 use editor::EditorReply;
+use editor::Key;
 use editor::Lengths;
 use editor::Mode;
 use editor::Sizes;
 use gap::lines::count_newlines;
 use gap::lines::since_newline;
 ghost use mathlib.Core.Path.{_≡_};
+ghost use mathlib.Core.Bool.{false};
 ghost use Prim.Native.Nat.{_≤_};
 ghost use lib.ListN.{length};
+ghost use Rattle.editor.specs.Wording.Marks.{cuts};
 ghost use Rattle.window.specs.Rules.Window.{policyRow, policyColumn};
 ghost use Rattle.window.specs.Wording.Calls.{newlinesLeft, LeftCounted, spotIn, visibleAt, policyAt, Texts, virtualHeld};
 
@@ -44,6 +47,35 @@ pub fn newlines_after(above: usize, was: Sizes, done: EditorReply, text: &[u8]) 
         return above + lines;
     }
     above + count_newlines(&text[l..m])
+}
+
+// CUT is the one key that reports no lines of what it takes from before the cursor. (02, M-104: lines, 0 for other keys.)
+fn is_cut(k: Key) -> bool
+    ensures { λ cut. ⌜ cut ≡ cuts k ⌝ }
+{
+    match k {
+        Key::Insert(_) => false,
+        Key::Function(_, _, _) => false,
+        Key::Recall => false,
+        Key::Quote => false,
+        Key::Find(_) => false,
+        Key::Replace => false,
+        Key::Mark => false,
+        Key::Cut => true,
+        Key::Paste => false,
+    }
+}
+
+// So after CUT the newlines left of the cursor are counted anew.
+pub fn newlines_now(k: Key, above: usize, was: Sizes, done: EditorReply, text: &[u8]) -> usize
+    requires { ⌜ done .lengths .main .l ≤ length (now text) ⌝ }
+    requires { ⌜ (cuts k ≡ false → LeftCounted above (was .l) (done .lengths .main .l) (done .report .lines) (now text)) ⌝ }
+    ensures { λ below. ⌜ below ≡ newlinesLeft (done .lengths .main .l) (now (text .entry)) ⌝ }
+{
+    if is_cut(k) {
+        return newlines_left(done.lengths, text);
+    }
+    newlines_after(above, was, done, text)
 }
 
 // Row from 1 and column from 0, over the texts left of the cursor only.

@@ -11,6 +11,7 @@ use crate::host_keys::key_from;
 use crate::sender::Update;
 use crate::sender::send;
 use editor::Lengths;
+use editor::Marking;
 use editor::Mode;
 use editor::Sizes;
 use editor::refusals::SESSION;
@@ -21,10 +22,12 @@ ghost use Rattle.window.specs.Wording.Calls.{lent};
 ghost use Rattle.window.specs.Rules.Core.{refusal};
 ghost use Rattle.window.specs.Wording.Promise.{HostOpenPromise, HostKeyPromise, SendPromise};
 ghost use Rattle.window.specs.Wording.Writing.{outcomeOf};
-ghost use Rattle.window.specs.Rules.Host.{modeOf, sessionFrom, modeNumber, recordFrom, numbersOf, saidOf, given};
+ghost use Rattle.window.specs.Rules.Host.{modeOf, markFrom, sessionFrom, modeNumber, markNumber, recordFrom};
+ghost use Rattle.window.specs.Rules.Host.{numbersOf, saidOf, given};
 
 // The session record in document order: lengths of the document left and right of its cursor, of the quotation, of both halves of the
-// document's recall text and of the quotation's, of both halves of the replacement, of the pattern; mode; offsets; rows and columns.
+// document's recall text and of the quotation's, of both halves of the replacement, of the pattern; mode; offsets; rows and columns; both halves
+// of the held text; mark.
 #[repr(C)]
 pub struct Record {
     pub l: usize,
@@ -43,7 +46,13 @@ pub struct Record {
     pub left: usize,
     pub rows: usize,
     pub columns: usize,
+    pub hl: usize,
+    pub hr: usize,
+    pub mark: usize,
 }
+
+// No mark, as a number: the largest size.
+pub const NO_MARK: usize = 18446744073709551615;
 
 // The answer.
 #[repr(C)]
@@ -77,6 +86,15 @@ fn mode_of(m: usize) -> Mode
     Mode::Main
 }
 
+fn mark_from(m: usize) -> Marking
+    ensures { λ mark. ⌜ mark ≡ markFrom m ⌝ }
+{
+    if m == NO_MARK {
+        return Marking::Unmarked;
+    }
+    Marking::At(m)
+}
+
 fn session_from(n: Record) -> Session
     ensures { λ s. ⌜ s ≡ sessionFrom n ⌝ }
 {
@@ -98,6 +116,9 @@ fn session_from(n: Record) -> Session
             xr: n.xr,
             pl: n.pl,
             mode: mode_of(n.mode),
+            hl: n.hl,
+            hr: n.hr,
+            mark: mark_from(n.mark),
         },
         frame: Frame {
             r: n.top,
@@ -119,6 +140,15 @@ fn mode_number(mode: Mode) -> usize
     }
 }
 
+fn mark_number(mark: Marking) -> usize
+    ensures { λ m. ⌜ m ≡ markNumber mark ⌝ }
+{
+    match mark {
+        Marking::Unmarked => NO_MARK,
+        Marking::At(m) => m,
+    }
+}
+
 fn record_from(s: Session) -> Record
     ensures { λ n. ⌜ n ≡ recordFrom s ⌝ }
 {
@@ -126,6 +156,7 @@ fn record_from(s: Session) -> Record
     let main = lengths.main;
     let quoted = lengths.quoted;
     let mode = lengths.mode;
+    let mark = lengths.mark;
     let frame = s.frame;
     Record {
         l: main.l,
@@ -144,6 +175,9 @@ fn record_from(s: Session) -> Record
         left: frame.c,
         rows: frame.h,
         columns: frame.w,
+        hl: lengths.hl,
+        hr: lengths.hr,
+        mark: mark_number(mark),
     }
 }
 
@@ -200,13 +234,15 @@ pub extern "C" fn chidukwore_open(
     columns: usize,
     text: &mut [u8],
     recall: &mut [u8],
+    held: &mut [u8],
     side: &mut [u8],
     screen: &mut [u8],
 ) -> HostReply
-    ensures { λ q. ⌜ HostOpenPromise n rows columns (lent (now (text .entry)) (now (recall .entry)) (now (side .entry)) (now (screen .entry)))
-        (given q (lent (now (text .exit)) (now (recall .exit)) (now (side .exit)) (now (screen .exit)))) ⌝ }
+    ensures { λ q. ⌜ HostOpenPromise n rows columns
+        (lent (now (text .entry)) (now (recall .entry)) (now (held .entry)) (now (side .entry)) (now (screen .entry)))
+        (given q (lent (now (text .exit)) (now (recall .exit)) (now (held .exit)) (now (side .exit)) (now (screen .exit)))) ⌝ }
 {
-    in_numbers(open(n, rows, columns, text, recall, side, screen))
+    in_numbers(open(n, rows, columns, text, recall, held, side, screen))
 }
 
 // Presses a key.
@@ -219,17 +255,19 @@ pub extern "C" fn chidukwore_key(
     c: usize,
     text: &mut [u8],
     recall: &mut [u8],
+    held: &mut [u8],
     side: &mut [u8],
     screen: &mut [u8],
 ) -> HostReply
-    ensures { λ q. ⌜ HostKeyPromise n kind a b c (lent (now (text .entry)) (now (recall .entry)) (now (side .entry)) (now (screen .entry)))
-        (given q (lent (now (text .exit)) (now (recall .exit)) (now (side .exit)) (now (screen .exit)))) ⌝ }
+    ensures { λ q. ⌜ HostKeyPromise n kind a b c
+        (lent (now (text .entry)) (now (recall .entry)) (now (held .entry)) (now (side .entry)) (now (screen .entry)))
+        (given q (lent (now (text .exit)) (now (recall .exit)) (now (held .exit)) (now (side .exit)) (now (screen .exit)))) ⌝ }
 {
     let mode = n.mode;
     let rows = n.rows;
     let columns = n.columns;
     if 1 < mode {
-        if tabled_stores(rows, columns, text, recall, side, screen) {
+        if tabled_stores(rows, columns, text, recall, held, side, screen) {
             return refusal_of(SESSION, n);
         }
         return refusal_of(SIZE, n);
@@ -239,6 +277,7 @@ pub extern "C" fn chidukwore_key(
         key_from(kind, a, b, c),
         text,
         recall,
+        held,
         side,
         screen,
     ))

@@ -97,5 +97,14 @@ pub fn key_from(kind: usize, a: usize, b: usize, c: usize) -> Key
     if kind == 5 {
         return Key::Replace;
     }
+    if kind == 6 {
+        return Key::Mark;
+    }
+    if kind == 7 {
+        return Key::Cut;
+    }
+    if kind == 8 {
+        return Key::Paste;
+    }
     Key::Insert(0)
 }

@@ -3,7 +3,7 @@
 use super::bytes::{allowed, newlines};
 use super::places::{distance_left, distance_right, find_left, find_right, Direction, Place};
 use super::texts::Side;
-use crate::chidukwore::{self, Record};
+use crate::chidukwore::{self, Record, NO_MARK};
 
 pub const QUARTER: usize = 256;
 
@@ -25,6 +25,9 @@ pub enum Key {
     Quote,
     Find(Direction),
     Replace,
+    Mark,
+    Cut,
+    Paste,
 }
 
 /// What an accepted key reports.
@@ -46,7 +49,7 @@ fn direction(number: usize) -> Option<Direction> {
 }
 
 /// The key that the numbers name, unless it is refused with KEY.
-pub fn sound_key(chidukwore::Key(kind, a, b, c): chidukwore::Key) -> Option<Key> {
+pub fn sound_key(chidukwore::Key(kind, a, b, c): chidukwore::Key, mode: usize) -> Option<Key> {
     use Place::{Character, Document, LineBeginning, LineEnding, Word};
     match kind {
         0 => u8::try_from(a).ok().filter(|&b| allowed(b)).map(|b| Key::Edit(Edit::Insert(b))),
@@ -62,12 +65,22 @@ pub fn sound_key(chidukwore::Key(kind, a, b, c): chidukwore::Key) -> Option<Key>
         3 => Some(Key::Quote),
         4 => direction(a).map(Key::Find),
         5 => Some(Key::Replace),
+        6 if mode == 0 => Some(Key::Mark),
+        7 if mode == 0 => Some(Key::Cut),
+        8 if mode == 0 => Some(Key::Paste),
         _ => None,
     }
 }
 
 /// Presses a key on a session. With FULL nothing has changed.
-pub fn press(record: &mut Record, key: Key, text: &mut [u8], recall: &mut [u8], side: &mut [u8]) -> Result<Went, Full> {
+pub fn press(
+    record: &mut Record,
+    key: Key,
+    text: &mut [u8],
+    recall: &mut [u8],
+    held: &mut [u8],
+    side: &mut [u8],
+) -> Result<Went, Full> {
     match key {
         Key::Quote => {
             side[..2 * QUARTER].fill(0);
@@ -92,7 +105,13 @@ pub fn press(record: &mut Record, key: Key, text: &mut [u8], recall: &mut [u8], 
             (record.ql, record.qr, record.qrl, record.qrr) = (quotation.l, quotation.r, quotation.rl, quotation.rr);
             Ok(went)
         }
-        Key::Edit(edit) => on_document(record, text, recall, |document| on_side(document, edit)),
+        Key::Edit(edit) => followed(record, |record| on_document(record, text, recall, |document| on_side(document, edit))),
+        Key::Mark => {
+            record.mark = record.l;
+            Ok(Went::default())
+        }
+        Key::Cut => Ok(cut(record, text, held)),
+        Key::Paste => followed(record, |record| holding(record, text, held, |document| on_side(document, Edit::Recall))),
     }
 }
 
@@ -103,6 +122,49 @@ fn on_document<R>(record: &mut Record, text: &mut [u8], recall: &mut [u8], chang
     let result = change(&mut document);
     (record.l, record.r, record.rl, record.rr) = (document.l, document.r, document.rl, document.rr);
     result
+}
+
+/// The same with the held text in the place of the recall text.
+fn holding<R>(record: &mut Record, text: &mut [u8], held: &mut [u8], change: impl FnOnce(&mut Side) -> R) -> R {
+    let Record { l, r, held_left, held_right, .. } = *record;
+    let mut document = Side { text, recall: held, l, r, rl: held_left, rr: held_right };
+    let result = change(&mut document);
+    (record.l, record.r, record.held_left, record.held_right) = (document.l, document.r, document.rl, document.rr);
+    result
+}
+
+/// The mark, after so many bytes from a position on went and so many came there: in what went it is gone, at the right end of that it is
+/// where it began.
+fn mark_after(mark: usize, from: usize, gone: usize, come: usize) -> usize {
+    let to = from + gone;
+    match mark {
+        NO_MARK => NO_MARK,
+        mark if mark <= from => mark,
+        mark if mark < to => NO_MARK,
+        mark if mark == to => from,
+        mark => mark - gone + come,
+    }
+}
+
+/// The mark follows a change of the document that only takes bytes away or only brings some: the lengths tell which.
+fn followed<R>(record: &mut Record, change: impl FnOnce(&mut Record) -> R) -> R {
+    let (l, n) = (record.l, record.l + record.r);
+    let result = change(record);
+    let now = record.l + record.r;
+    record.mark = mark_after(record.mark, l.min(record.l), n.saturating_sub(now), now.saturating_sub(n));
+    result
+}
+
+/// CUT is a deletion as far as the mark, into the held text.
+fn cut(record: &mut Record, text: &mut [u8], held: &mut [u8]) -> Went {
+    let Record { l, mark, .. } = *record;
+    if mark == NO_MARK {
+        return RANG;
+    }
+    let steps = l.abs_diff(mark);
+    holding(record, text, held, |document| if mark < l { document.delete_left(steps) } else { document.delete_right(steps) });
+    record.mark = NO_MARK;
+    Went { steps, lines: 0, bell: false }
 }
 
 fn on_side(side: &mut Side, edit: Edit) -> Result<Went, Full> {
@@ -197,5 +259,6 @@ fn replace(record: &mut Record, text: &mut [u8], recall: &mut [u8], side: &mut [
     let pattern = &side[2 * QUARTER..][..pl];
     let (left, right) = side[3 * QUARTER..][..x + y].split_at(x);
     on_document(record, text, recall, |document| document.exchange(pattern, left, right));
+    record.mark = mark_after(record.mark, l, pl, x + y);
     Ok(Went::default())
 }

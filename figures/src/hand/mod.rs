@@ -8,9 +8,9 @@ pub mod terminal;
 mod texts;
 mod window;
 
-use crate::chidukwore::{Answer, Key, Record, Reply};
+use crate::chidukwore::{Answer, Key, Record, Reply, Stores, NO_MARK};
 use bytes::{all_allowed, all_free};
-use keys::{press, sound_key, Full, QUARTER};
+use keys::{press, sound_key, Full, Went, QUARTER};
 use window::{cursor, follow, paint, visible};
 
 const SIZE: usize = 1;
@@ -20,19 +20,20 @@ const FULL: usize = 6;
 
 /// Presses a key. Not inlined, as the proved core's call is none that could be.
 #[inline(never)]
-pub fn key(record: Record, key: Key, text: &mut [u8], recall: &mut [u8], side: &mut [u8], screen: &mut [u8]) -> Reply {
+pub fn key(record: Record, key: Key, lent: Stores) -> Reply {
     let refused = |code| Reply { answer: Answer { code, ..Answer::default() }, record };
-    if !sized(&record, text, recall, side, screen) {
+    if !sized(&record, &lent) {
         return refused(SIZE);
     }
-    if !is_session(&record, text, recall, side) {
+    if !is_session(&record, &lent) {
         return refused(SESSION);
     }
-    let Some(key) = sound_key(key) else {
+    let Some(key) = sound_key(key, record.mode) else {
         return refused(KEY);
     };
     let mut now = record;
-    let went = match press(&mut now, key, text, recall, side) {
+    let Stores { text, recall, held, side, screen } = lent;
+    let Went { steps, lines, bell } = match press(&mut now, key, text, recall, held, side) {
         Ok(went) => went,
         Err(Full) => return refused(FULL),
     };
@@ -40,14 +41,16 @@ pub fn key(record: Record, key: Key, text: &mut [u8], recall: &mut [u8], side: &
     follow(&mut now, &spot);
     let (first, last) = paint(&now, &spot, text, side, screen);
     let (row, column) = (spot.row - now.top, spot.column - now.left);
-    Reply { answer: Answer { code: 0, place: 0, steps: went.steps, lines: went.lines, bell: went.bell.into(), first, last, row, column }, record: now }
+    let answer = Answer { code: 0, place: 0, steps, lines, bell: bell.into(), first, last, row, column };
+    Reply { answer, record: now }
 }
 
-fn sized(record: &Record, text: &[u8], recall: &[u8], side: &[u8], screen: &[u8]) -> bool {
+fn sized(record: &Record, Stores { text, recall, held, side, screen }: &Stores) -> bool {
     (1..=64).contains(&record.rows)
         && (1..=256).contains(&record.columns)
         && (1..=65_536).contains(&text.len())
         && recall.len() == text.len()
+        && held.len() == text.len()
         && side.len() == 4 * QUARTER
         && screen.len() == record.rows * record.columns
 }
@@ -64,14 +67,18 @@ fn sound_pair(store: &[u8], x: usize, y: usize) -> bool {
     x.checked_add(y).is_some_and(|n| sound(store, n, 0))
 }
 
-fn is_session(n: &Record, text: &[u8], recall: &[u8], side: &[u8]) -> bool {
+/// The mark is tested once l + r is known to be a length.
+fn is_session(n: &Record, Stores { text, recall, held, side, .. }: &Stores) -> bool {
     let quarter = |i: usize| &side[i * QUARTER..(i + 1) * QUARTER];
     n.mode <= 1
         && (n.mode == 1 || [n.ql, n.qr, n.qrl, n.qrr] == [0; 4])
         && (n.rl == 0 || n.rr == 0)
         && (n.qrl == 0 || n.qrr == 0)
+        && (n.held_left == 0 || n.held_right == 0)
         && sound(text, n.l, n.r)
+        && (n.mark == NO_MARK || n.mark <= n.l + n.r)
         && sound_pair(recall, n.rl, n.rr)
+        && sound_pair(held, n.held_left, n.held_right)
         && sound(quarter(0), n.ql, n.qr)
         && sound_pair(quarter(1), n.qrl, n.qrr)
         && sound_pair(quarter(2), n.pl, 0)

@@ -1,4 +1,4 @@
-//! A text in a gap store with its recall text in a pair store: the document's side or the quotation's.
+//! A text in a gap store with its recall text in a pair store: the document's side or the quotation's, or the document with the held text.
 
 pub struct Side<'a> {
     pub text: &'a mut [u8],

@@ -1,4 +1,5 @@
-//! A session for the tests: texts with their cursors are written as document 01 writes them. No test file uses all of it.
+//! A session for the tests: texts with their cursors are written as document 01 writes them, and the mark as `^`; where both are at one
+//! position the mark is written first. No test file uses all of it.
 #![allow(dead_code)]
 
 use second::bytes::{session, Stores};
@@ -24,6 +25,18 @@ impl Bench {
         bench
     }
 
+    /// A session on a text with a cursor and a mark.
+    pub fn open_marked(text: &str, t: usize, h: usize, w: usize) -> Bench {
+        let mut bench = Bench::open(&text.replace('|', "").replace('^', "|"), t, h, w);
+        assert_eq!(bench.press(Mark), (0, 0, 0));
+        bench.press(Function(Move, Left, Document));
+        for _ in 0..text.replace('^', "").find('|').expect("a cursor") {
+            bench.press(Function(Move, Right, Character));
+        }
+        assert_eq!(bench.marked(), text);
+        bench
+    }
+
     /// The code, the steps and the bell of a key.
     pub fn press(&mut self, key: Key) -> (usize, usize, usize) {
         self.reply = Second.key(self.reply.record, numbers_of(key), &mut self.stores);
@@ -41,6 +54,21 @@ impl Bench {
 
     pub fn text(&self) -> String {
         shown(&self.editor().main.text)
+    }
+
+    /// The text with its cursor and its mark, if it has one.
+    pub fn marked(&self) -> String {
+        let mut text = self.text();
+        let cursor = self.editor().main.text.l.len();
+        if let Some(mark) = self.editor().mark {
+            text.insert(if mark <= cursor { mark } else { mark + 1 }, '^');
+        }
+        text
+    }
+
+    /// The held pair.
+    pub fn held(&self) -> String {
+        shown(&self.editor().held)
     }
 
     pub fn quotation(&self) -> String {

@@ -1,4 +1,4 @@
--- Laws of names: what the five words name, and a name that was compared with a word or found to begin with `insert-`.
+-- Laws of names: what the words name, and a name that was compared with a word or found to begin with `insert-`.
 use mathlib.Core.Path.{_≡_, refl, sym, ap, _∙_}
 use mathlib.Core.Bool.{Bool, true}
 use mathlib.Core.List.{List}
@@ -9,24 +9,28 @@ use Rattle.gap.specs.Rules.Strings.{bytes}
 use Rattle.gap.specs.Rules.Decimal.{numberOf}
 use Rattle.gap.proofs.Laws.Sequence.{same-equal}
 use Rattle.gap.proofs.Laws.Runs.{tailOf, tail-lent}
-use Rattle.bench.specs.Words.{Left, Right, Recall, Quote, Find, Replace, Number, Naming, Named}
-use Rattle.bench.specs.Rules.Names.{mostDigits, insertNumbered, keyNamed}
+use Rattle.bench.specs.Words.{Left, Right, Recall, Quote, Find, Replace, Mark, Cut, Paste, Number, Naming, Named}
+use Rattle.bench.specs.Rules.Names.{mostDigits, insertNumbered, markNamed, keyNamed}
 
-pub record FiveWords : Type 0 where
+pub record Words : Type 0 where
   pub recall : Named Recall ≡ keyNamed (bytes "recall")
   pub quote : Named Quote ≡ keyNamed (bytes "quote")
   pub find : Named (Find Right) ≡ keyNamed (bytes "find")
   pub upfind : Named (Find Left) ≡ keyNamed (bytes "upfind")
   pub replace : Named Replace ≡ keyNamed (bytes "replace")
+  pub mark : Named Mark ≡ markNamed (bytes "mark")
+  pub cut : Named Cut ≡ markNamed (bytes "cut")
+  pub paste : Named Paste ≡ markNamed (bytes "paste")
 
-pub five-words : FiveWords
-unfolding keyNamed begins sameBytes bytes
-five-words = record { recall = refl; quote = refl; find = refl; upfind = refl; replace = refl }
+pub words : Words
+unfolding keyNamed markNamed begins sameBytes bytes
+words = record { recall = refl; quote = refl; find = refl; upfind = refl; replace = refl; mark = refl; cut = refl; paste = refl }
 
 module _ {yes : Bool} {key : Naming} (name : List ℕ) where
   -- A name that is a word names what the word names.
-  pub named-as : (word : String) → key ≡ keyNamed (bytes word) → yes ≡ sameBytes name (bytes word) → yes ≡ true → key ≡ keyNamed name
-  named-as word named compared e = named ∙ ap keyNamed (sym (same-equal name (bytes word) (sym compared ∙ e)))
+  pub named-as : (naming : List ℕ → Naming) (word : String) → key ≡ naming (bytes word) → yes ≡ sameBytes name (bytes word) → yes ≡ true
+      → key ≡ naming name
+  named-as naming word named compared e = named ∙ ap naming (sym (same-equal name (bytes word) (sym compared ∙ e)))
 
   -- Behind `insert-` stands the number.
   pub named-insert : {number : Number} → yes ≡ begins (bytes "insert-") name → yes ≡ true

@@ -39,12 +39,12 @@ module _ {r : Reply} {after : Lent} {t : Turn} {old new : List ℕ} where
       }
 
   pub opening-does : (h : Header) (input : List ℕ) (b : Lent) {text : List ℕ} → text ≡ laidOut h input b .stores .text
-      → called r after ≡ opened (h .length) (h .rows) (h .columns) (lent text (b .stores .recall) (b .stores .side) (b .screen))
+      → called r after ≡ opened (h .length) (h .rows) (h .columns) (lent text (b .stores .recall) (b .stores .held) (b .stores .side) (b .screen))
       → Answered (eqb (r .answer .code) 0) (h .at + h .length + 1) (h .rows) (h .columns) r (after .screen) old t new
       → Does (openingTurn h input b) t after old new
   unfolding openingTurn
   opening-does h input b laid e said =
-      let o = e ∙ ap (λ t. opened (h .length) (h .rows) (h .columns) (lent t (b .stores .recall) (b .stores .side) (b .screen))) laid in
+      let o = e ∙ ap (λ t. opened (h .length) (h .rows) (h .columns) (lent t (b .stores .recall) (b .stores .held) (b .stores .side) (b .screen))) laid in
       leaves (λ x. eqb (x .answer .code) 0) (add-one (h .at + h .length)) o said
 
   pub press-does : (s : Session) (k : Key) (next : ℕ) (b : Lent) → called r after ≡ keyed s k b

@@ -11,13 +11,15 @@ use Rattle.gap.specs.Rules.Decimal.{valueAfter, isNumber, numberOf, digitsIn, d
 use Rattle.gap.specs.Rules.Fields.{lineOf, lineAt, endAt, nextAt, lineNumber, fieldOf, headerAt, entry}
 use Rattle.editor.specs.Rules.Passages.{withLines, passageTo}
 use Rattle.editor.specs.Rules.Places.{lineBeginning, lineEnding, word, documentEnd, isAt}
+use Rattle.editor.specs.Rules.Marks.{markThrough}
+use Rattle.editor.specs.Rules.Keys.{markedHere, cutTo, pasted, acted, changeOf}
 use Rattle.editor.specs.Rules.Keys.{soundKey, inserted, carried, function, recalled, onSide, quoted, withPattern, searched, found}
 use Rattle.editor.specs.Rules.Keys.{withReplacement, exchanged, substituted, replaced, pressed, fits, bounded, key}
 use Rattle.editor.specs.Rules.Bytes.{quarter, sized, plainOf, lengthsOf, storesOf, editorOk}
 use Rattle.window.specs.Rules.Window.{virtualIn, rowCells, joined, window, visible, policy}
 use Rattle.window.specs.Rules.Rows.{firstRow, lastRow}
 use Rattle.window.specs.Rules.Core.{tabled, isSession, openedText, opened, shown, finished, keyed}
-use Rattle.bench.specs.Rules.Names.{combinations, functionNamed, keyNamed}
+use Rattle.bench.specs.Rules.Names.{combinations, functionNamed, markNamed, keyNamed}
 use Rattle.bench.specs.Rules.Script.{textThere, headingOf, keyOf, readingAt}
 use Rattle.bench.specs.Rules.Print.{rowsOf, acceptedBlock, refusedBlock, block, scriptLine}
 use Rattle.bench.specs.Rules.Run.{beginning, openingTurn, pressedTurn, nextTurn, turns, fresh, output}
@@ -27,8 +29,9 @@ pub samples-printed : printed samples ≡ true
 unfolding every sameBytes begins part patch zeros counted bytes move delete times passed removed splice nearest distance withLines passageTo
     newlines sinceAfter lines gapped paired ungap unpair soundGap soundPair valueAfter isNumber numberOf digitsIn decimal lineBeginning
     lineEnding word documentEnd isAt soundKey inserted carried function recalled onSide quoted withPattern searched found withReplacement
-    exchanged substituted replaced pressed fits bounded key quarter sized plainOf lengthsOf storesOf editorOk virtualIn rowCells joined
-    window visible policy firstRow lastRow tabled isSession openedText opened shown finished keyed combinations functionNamed keyNamed
+    exchanged substituted replaced markThrough markedHere cutTo pasted acted changeOf pressed fits bounded key quarter sized plainOf lengthsOf
+    storesOf editorOk virtualIn rowCells joined window visible policy firstRow lastRow tabled isSession openedText opened shown finished keyed
+    combinations functionNamed markNamed keyNamed
     lineOf lineAt endAt nextAt lineNumber fieldOf headerAt textThere headingOf keyOf readingAt entry rowsOf acceptedBlock refusedBlock block
     scriptLine beginning openingTurn pressedTurn nextTurn turns fresh output printed
 samples-printed = refl

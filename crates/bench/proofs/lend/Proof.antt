@@ -14,7 +14,7 @@ play-requires c κs =
     let store = length-take-le _ _ (start .pre .1) in (
       start .pre .0,
       (
-        record { text = store; recall = store; side = refl; screen = length-take-le _ _ (area .1) ∙ area .0 },
+        record { text = store; recall = store; held = store; side = refl; screen = length-take-le _ _ (area .1) ∙ area .0 },
         search needs,
       ),
     )
@@ -26,9 +26,11 @@ lend-spec = tie.close (tie.spec
     (λ c. sym (length-take-le _ _ (c .before .before .before .pre .1)))  -- slice-aggregate-play
     (λ c. search needs)  -- array-borrow-prefix-recall
     (λ c. sym (length-take-le _ _ (c .before .before .before .before .pre .1)))  -- slice-aggregate-play-2
-    (λ c. search needs)  -- slice-aggregate-play-3
+    (λ c. search needs)  -- array-borrow-prefix-held
+    (λ c. sym (length-take-le _ _ (c .before .before .before .before .before .pre .1)))  -- slice-aggregate-play-3
+    (λ c. search needs)  -- slice-aggregate-play-4
     (λ c. search needs)  -- array-borrow-prefix-screen
-    (λ c. sym (length-take-le _ _ (c .before .before .before .before .screen-size .ensures .1)))  -- slice-aggregate-play-4
-    (λ c. search needs)  -- slice-aggregate-play-5
+    (λ c. let sized : tie.After-screen-size = search in sym (length-take-le _ _ (sized .screen-size .ensures .1)))  -- slice-aggregate-play-5
+    (λ c. search needs)  -- slice-aggregate-play-6
     play-requires
     (λ c. search needs))  -- returns

@@ -10,17 +10,18 @@ use Rattle.bench.proofs.play.Tie as tie
 
 -- The next line is within the input, and no store has another length than at the loop's start.
 abbrev Inv-loop : tie.InvT-loop
-Inv-loop input text₀ recall₀ side₀ screen₀ out₀ turn₀ going₀ text recall side screen out turn going =
+Inv-loop input text₀ recall₀ held₀ side₀ screen₀ out₀ turn₀ going₀ text recall held side screen out turn going =
     (turn .at ≤ length input)
     × (17408 ≤ length out)
     × (length text ≡ length text₀)
     × (length recall ≡ length recall₀)
+    × (length held ≡ length held₀)
     × (length side ≡ length side₀)
     × (length screen ≡ length screen₀)
     × (length out ≡ length out₀)
 
 abbrev μ-loop : tie.MeasureT-loop
-μ-loop input text₀ recall₀ side₀ screen₀ out₀ turn₀ going₀ text recall side screen out turn going =
+μ-loop input text₀ recall₀ held₀ side₀ screen₀ out₀ turn₀ going₀ text recall held side screen out turn going =
     turnsLeft going turn (length input)
 
 write-front-requires : tie.Need-write-front-requires Inv-loop μ-loop
@@ -32,7 +33,8 @@ loop-holds : tie.Need-loop-holds Inv-loop μ-loop
 loop-holds c =
     let after-opening : tie.After-opening Inv-loop μ-loop = search in let start : tie.Start Inv-loop μ-loop = search in (
       opening-inside _ _ _ _ _ _ _ (after-opening .opening .ensures) (start .pre .0),
-      omega (arith, after-opening .opening .kept .1 .1 .1 .1 .1 .1 .0, start .pre .1 .1),
+      omega (arith, after-opening .opening .kept .1 .1 .1 .1 .1 .1 .1 .0, start .pre .1 .1),
+      refl,
       refl,
       refl,
       refl,
@@ -61,12 +63,13 @@ loop-again c =
     let after-next-turn : tie.After-next-turn Inv-loop μ-loop = search in
     let at-loop : tie.At-loop Inv-loop μ-loop = search in (
       after-next-turn .next-turn .ensures .1 .inside,
-      omega (arith, after-next-turn .next-turn .kept .1 .1 .1 .1 .1 .1 .0, at-loop .loop .inv .1),
+      omega (arith, after-next-turn .next-turn .kept .1 .1 .1 .1 .1 .1 .1 .0, at-loop .loop .inv .1),
       after-next-turn .next-turn .kept .1 .1 .0 ∙ at-loop .loop .inv .2,
       after-next-turn .next-turn .kept .1 .1 .1 .0 ∙ at-loop .loop .inv .3,
       after-next-turn .next-turn .kept .1 .1 .1 .1 .0 ∙ at-loop .loop .inv .4,
       after-next-turn .next-turn .kept .1 .1 .1 .1 .1 .0 ∙ at-loop .loop .inv .5,
       after-next-turn .next-turn .kept .1 .1 .1 .1 .1 .1 .0 ∙ at-loop .loop .inv .6,
+      after-next-turn .next-turn .kept .1 .1 .1 .1 .1 .1 .1 .0 ∙ at-loop .loop .inv .7,
     )
 
 same-length : tie.Need-same-length Inv-loop μ-loop
@@ -94,9 +97,14 @@ same-length-5 c =
     let after-opening : tie.After-opening Inv-loop μ-loop = search in
     c .before .loop .inv .6 ∙ after-opening .opening .kept .1 .1 .1 .1 .1 .1 .0
 
+same-length-6 : tie.Need-same-length-6 Inv-loop μ-loop
+same-length-6 c =
+    let after-opening : tie.After-opening Inv-loop μ-loop = search in
+    c .before .loop .inv .7 ∙ after-opening .opening .kept .1 .1 .1 .1 .1 .1 .1 .0
+
 pub play-spec : {M : Type 1} → statement M
 play-spec = tie.close (tie.spec Inv-loop μ-loop
     (λ c κs. search needs)  -- opening-requires
     write-front-requires loop-holds next-turn-requires write-front-requires-2 loop-less loop-again same-length
-    same-length-2 same-length-3 same-length-4 same-length-5
+    same-length-2 same-length-3 same-length-4 same-length-5 same-length-6
     (λ c. search needs))  -- returns

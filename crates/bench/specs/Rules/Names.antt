@@ -2,7 +2,7 @@
 use Rattle.bench.specs.Words.{List, [], _∷_, _++_, map, cond, ℕ, _-_, leb, length, drop, getD, String, Number, Read, Unreadable}
 use Rattle.bench.specs.Words.{Direction, Left, Right, Search, Reached, Nowhere, Action, Move, Delete}
 use Rattle.bench.specs.Words.{Place, Character, Word, LineBeginning, LineEnding, Document, Key, Insert, Function, Recall, Quote}
-use Rattle.bench.specs.Words.{Find, Replace, Naming, Named, Unnamed, Entry}
+use Rattle.bench.specs.Words.{Find, Replace, Mark, Cut, Paste, Naming, Named, Unnamed, Entry}
 use Rattle.gap.specs.Rules.Sequence.{sameBytes, begins, zeros}
 use Rattle.gap.specs.Rules.Strings.{bytes}
 use Rattle.gap.specs.Rules.Nearest.{nearest}
@@ -85,6 +85,12 @@ abbrev pub insertNumbered : Number → Naming
 insertNumbered (Read n) = cond (leb n 255) (Named (Insert n)) Unnamed
 insertNumbered Unreadable = Unnamed
 
+-- The keys about the mark. (02, M-101. DECISIONS C6.)
+unfoldable pub markNamed : List ℕ → Naming
+markNamed name =
+    cond (sameBytes name (bytes "mark")) (Named Mark)
+    (cond (sameBytes name (bytes "cut")) (Named Cut) (cond (sameBytes name (bytes "paste")) (Named Paste) (functionNamed name)))
+
 unfoldable pub keyNamed : List ℕ → Naming
 keyNamed name =
     cond (begins (bytes "insert-") name) (insertNumbered (numberOf mostDigits (drop 7 name)))
@@ -92,4 +98,4 @@ keyNamed name =
     (cond (sameBytes name (bytes "quote")) (Named Quote)
     (cond (sameBytes name (bytes "find")) (Named (Find Right))
     (cond (sameBytes name (bytes "upfind")) (Named (Find Left))
-    (cond (sameBytes name (bytes "replace")) (Named Replace) (functionNamed name))))))
+    (cond (sameBytes name (bytes "replace")) (Named Replace) (markNamed name))))))

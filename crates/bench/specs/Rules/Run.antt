@@ -54,6 +54,7 @@ laidOut h input b =
           record {
             text = patch 0 (take (length (b .stores .text)) (part (h .at) (h .length) input)) (b .stores .text);
             recall = b .stores .recall;
+            held = b .stores .held;
             side = b .stores .side;
           };
       screen = b .screen;
@@ -96,7 +97,7 @@ screenSize H W = cond (rowsAndColumns H W) (H * W) 0
 unfoldable pub fresh : Header → Lent
 fresh h =
     record {
-      stores = record { text = zeros (h .store); recall = zeros (h .store); side = zeros (4 * quarter) };
+      stores = record { text = zeros (h .store); recall = zeros (h .store); held = zeros (h .store); side = zeros (4 * quarter) };
       screen = zeros (screenSize (h .rows) (h .columns));
     }
 

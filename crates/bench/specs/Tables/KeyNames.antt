@@ -1,6 +1,6 @@
--- Every key's name as document 01 writes it, and words that name no key. proofs/Theorems/Pins computes them.
+-- Every key's name as documents 01 and 02 write it, and words that name no key. proofs/Theorems/Pins computes them.
 use Rattle.bench.specs.Words.{List, [], _∷_, String, Left, Right, Move, Delete, Character, Word, LineBeginning, LineEnding, Document}
-use Rattle.bench.specs.Words.{Key, Insert, Function, Recall, Quote, Find, Replace}
+use Rattle.bench.specs.Words.{Key, Insert, Function, Recall, Quote, Find, Replace, Mark, Cut, Paste}
 
 pub record NamedKey : Type 0 where
   pub name : String
@@ -42,6 +42,9 @@ otherNames =
     ∷ names "find" (Find Right)
     ∷ names "upfind" (Find Left)
     ∷ names "replace" Replace
+    ∷ names "mark" Mark
+    ∷ names "cut" Cut
+    ∷ names "paste" Paste
     ∷ names "insert-0" (Insert 0)
     ∷ names "insert-10" (Insert 10)
     ∷ names "insert-97" (Insert 97)
@@ -65,6 +68,9 @@ noNames =
     ∷ "find-right"
     ∷ "upfind-left"
     ∷ "replaced"
+    ∷ "marks"
+    ∷ "Cut"
+    ∷ "past"
     ∷ "move"
     ∷ "move-left"
     ∷ "move-left-line"

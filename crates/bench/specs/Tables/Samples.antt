@@ -33,6 +33,19 @@ documentSample =
           ++ bytes "code=0\nsteps=3\nlines=0\nbell=0\nfirst=0\nlast=0\nrow=1\ncol=3\nline=a=1 \nline=bb=2\n");
     }
 
+-- M-101: a block is marked, cut and pasted.
+abbrev pub blockSample : Sample
+blockSample =
+    record {
+      script = bytes "rows=1\ncols=3\nstore=4\ntext=2\nab\nkey=mark\nkey=move-right-character\nkey=cut\nkey=paste\n";
+      prints =
+          bytes "code=0\nsteps=0\nlines=0\nbell=0\nfirst=1\nlast=1\nrow=1\ncol=0\nline=ab \n"
+          ++ (bytes "code=0\nsteps=0\nlines=0\nbell=0\nfirst=0\nlast=0\nrow=1\ncol=0\nline=ab \n"
+          ++ (bytes "code=0\nsteps=1\nlines=0\nbell=0\nfirst=0\nlast=0\nrow=1\ncol=1\nline=ab \n"
+          ++ (bytes "code=0\nsteps=1\nlines=0\nbell=0\nfirst=1\nlast=1\nrow=1\ncol=0\nline=b  \n"
+          ++ bytes "code=0\nsteps=0\nlines=0\nbell=0\nfirst=1\nlast=1\nrow=1\ncol=1\nline=ab \n")));
+    }
+
 -- The numbers are those of docs/DECISIONS.md.
 abbrev pub samples : List Sample
 samples =
@@ -81,6 +94,7 @@ samples =
     -- M-104, C21: a move over two newlines.
     ∷ prints "rows=1\ncols=1\nstore=4\ntext=3\n\n\na\nkey=move-right-document\n"
     "code=0\nsteps=0\nlines=0\nbell=0\nfirst=1\nlast=1\nrow=1\ncol=0\nline= \ncode=0\nsteps=3\nlines=2\nbell=0\nfirst=1\nlast=1\nrow=1\ncol=1\nline=a\n"
+    ∷ blockSample
     -- A15: column W.
     ∷ prints "rows=1\ncols=1\nstore=4\ntext=1\na\nkey=move-right-character\n"
     "code=0\nsteps=0\nlines=0\nbell=0\nfirst=1\nlast=1\nrow=1\ncol=0\nline=a\ncode=0\nsteps=1\nlines=0\nbell=0\nfirst=0\nlast=0\nrow=1\ncol=1\nline=a\n"

@@ -39,5 +39,6 @@ pub record Onward (t : Turn) (end : ℕ) (u : Turn) : Type 0 where
 pub record AsAsked (h : Header) (b : Lent) : Type 0 where
   pub text : length (b .stores .text) ≡ h .store
   pub recall : length (b .stores .recall) ≡ h .store
+  pub held : length (b .stores .held) ≡ h .store
   pub side : length (b .stores .side) ≡ 4 * quarter
   pub screen : length (b .screen) ≡ screenSize (h .rows) (h .columns)

@@ -2,20 +2,21 @@
 use mathlib.Core.Path.{_≡_, refl, sym, ap, _∙_}
 use mathlib.Core.Bool.{true}
 use mathlib.Core.List.{List, _++_}
-use Prim.Native.Nat.{ℕ, _≤_}
+use Prim.Native.Nat.{ℕ, _+_, _≤_}
 use native.Mathlib.Omega.{arith}
 use lib.ListN.{length}
 use Rattle.gap.specs.Rules.Layout.{gapped, paired, ungap, unpair, soundGap, soundPair}
 use Rattle.gap.proofs.Laws.Layout.{Encodes, length-gapped, length-paired, ungap-gapped, unpair-paired}
 use Rattle.gap.proofs.Laws.Layout.{gap-sound, pair-sound, sound-gap, sound-pair}
 use Rattle.editor.specs.Words.{Sizes, Lengths}
-use Rattle.editor.specs.Rules.Plain.{Side, Plain}
+use Rattle.editor.specs.Rules.Plain.{Side, Plain, holding}
+use Rattle.editor.specs.Rules.Marks.{markWithin}
 use Rattle.editor.specs.Rules.Bytes.{Stores, sized, quarterOf, alone, sizesOf, plainOf, lengthsOf, storesOf, editorOk, oneHalf}
-use Rattle.editor.specs.Rules.Bytes.{unquoted, SoundPlain, Encoded}
+use Rattle.editor.specs.Rules.Bytes.{unquoted, holdingSizes, SoundTexts, Encoded}
 use Rattle.editor.proofs.Laws.Quarters.{quartersOf, length-quarter, joined-quarters, length-side, encoded-quarter}
 use Rattle.editor.proofs.Laws.Session.{measured, measured-sized, passed, passed-ok}
 
-module _ (T Q : ℕ) (p : Plain) (s : SoundPlain T Q p) where
+module _ (T Q : ℕ) (p : Plain) (s : SoundTexts T Q p) where
   quarter : (i : ℕ) → i ≤ 3 → quarterOf Q i (storesOf T Q p .side) ≡ quartersOf Q p i
   quarter = encoded-quarter T Q p s
 
@@ -34,25 +35,30 @@ module _ (T Q : ℕ) (p : Plain) (s : SoundPlain T Q p) where
     pattern = (ap (unpair _ _) (quarter 2 (omega arith)) ∙ unpair-paired Q (alone (p .pattern)) (s .pattern .fits)) i .l;
     replacement = (ap (unpair _ _) (quarter 3 (omega arith)) ∙ unpair-paired Q (p .replacement) (s .replacement .fits)) i;
     mode = p .mode;
+    held = unpair-paired T (p .held) (s .held .fits) i;
+    mark = p .mark;
   }
 
   -- The encoding of a sound plain state passes the session test.
-  pub encoded-ok : editorOk Q (lengthsOf p) (storesOf T Q p) ≡ true
+  pub encoded-ok : markWithin (length (p .main .text .l) + length (p .main .text .r)) (p .mark) ≡ true → editorOk Q (lengthsOf p) (storesOf T Q p) ≡ true
   unfolding lengthsOf storesOf
-  encoded-ok = passed-ok Q (lengthsOf p) (storesOf T Q p) record {
+  encoded-ok mark = passed-ok Q (lengthsOf p) (storesOf T Q p) record {
     text = gap-sound T (p .main .text) (s .text);
     recall = pair-sound T (p .main .recall) (s .recall);
     quotation = ap (soundGap _ _) (quarter 0 (omega arith)) ∙ gap-sound Q (p .quoted .text) (s .quotation);
     itsRecall = ap (soundPair _ _) (quarter 1 (omega arith)) ∙ pair-sound Q (p .quoted .recall) (s .itsRecall);
     pattern = ap (soundPair _ _) (quarter 2 (omega arith)) ∙ pair-sound Q (alone (p .pattern)) (s .pattern);
     replacement = ap (soundPair _ _) (quarter 3 (omega arith)) ∙ pair-sound Q (p .replacement) (s .replacement);
+    held = pair-sound T (p .held) (s .held);
+    mark = mark;
     half = s .half;
     itsHalf = s .itsHalf;
+    heldHalf = s .heldHalf;
     mode = s .mode;
   }
 
 -- The encoding passes the test of sizes as well, for a T that the stores may have.
-pub encoded-sized : (T Q : ℕ) (p : Plain) → 1 ≤ T → T ≤ 65536 → SoundPlain T Q p → sized Q (storesOf T Q p) ≡ true
+pub encoded-sized : (T Q : ℕ) (p : Plain) → 1 ≤ T → T ≤ 65536 → SoundTexts T Q p → sized Q (storesOf T Q p) ≡ true
 unfolding storesOf
 encoded-sized T Q p low high s =
     let text : length (gapped T (p .main .text)) ≡ T = length-gapped T (p .main .text) (s .text .fits) in
@@ -60,6 +66,7 @@ encoded-sized T Q p low high s =
       low = omega arith;
       high = omega arith;
       recall = length-paired T (p .main .recall) (s .recall .fits) ∙ sym text;
+      held = length-paired T (p .held) (s .held .fits) ∙ sym text;
       side = length-side T Q p s;
     }
 
@@ -88,19 +95,26 @@ session-encoded Q n b size ok =
     let itsRecall = pair-held (n .quoted .rl) (n .quoted .rr) (quarterOf Q 1 (b .side)) (known 1 (omega arith)) (t .itsRecall) in
     let pattern = pair-held (n .pl) 0 (quarterOf Q 2 (b .side)) (known 2 (omega arith)) (t .pattern) in
     let replacement = pair-held (n .xl) (n .xr) (quarterOf Q 3 (b .side)) (known 3 (omega arith)) (t .replacement) in
+    let held = pair-held (n .hl) (n .hr) (b .held) (m .held) (t .held) in
     let main = same-sizes (n .main) (plainOf Q n b .main) (text .0) (recall .0) in
     let quoted = same-sizes (n .quoted) (plainOf Q n b .quoted) (quotation .0) (itsRecall .0) in
+    let holds = same-sizes (holdingSizes n) (holding (plainOf Q n b)) (text .0) (held .0) in
     record {
       sound = record {
-        text = text .0 .held;
-        recall = recall .0 .held;
-        quotation = quotation .0 .held;
-        itsRecall = itsRecall .0 .held;
-        pattern = pattern .0 .held;
-        replacement = replacement .0 .held;
-        half = ap oneHalf main ∙ t .half;
-        itsHalf = ap oneHalf quoted ∙ t .itsHalf;
-        mode = ap (unquoted (n .mode)) quoted ∙ t .mode;
+        texts = record {
+          text = text .0 .held;
+          recall = recall .0 .held;
+          quotation = quotation .0 .held;
+          itsRecall = itsRecall .0 .held;
+          pattern = pattern .0 .held;
+          replacement = replacement .0 .held;
+          held = held .0 .held;
+          half = ap oneHalf main ∙ t .half;
+          itsHalf = ap oneHalf quoted ∙ t .itsHalf;
+          heldHalf = ap oneHalf holds ∙ t .heldHalf;
+          mode = ap (unquoted (n .mode)) quoted ∙ t .mode;
+        };
+        mark = ap (λ s. markWithin (s .l + s .r) (n .mark)) main ∙ t .mark;
       };
       lengths = λ i. record {
         main = main i;
@@ -109,10 +123,14 @@ session-encoded Q n b size ok =
         xr = replacement .0 .right i;
         pl = pattern .0 .left i;
         mode = n .mode;
+        hl = held .0 .left i;
+        hr = held .0 .right i;
+        mark = n .mark;
       };
       stores = λ i. record {
         text = text .1 i;
         recall = recall .1 i;
+        held = held .1 i;
         side = ((λ j. quotation .1 j ++ (itsRecall .1 j ++ (pattern .1 j ++ replacement .1 j))) ∙ joined-quarters Q 3 (b .side) (m .side)) i;
       };
     }

@@ -22,7 +22,7 @@ use Rattle.editor.specs.declared.EditorReply.{EditorReply}
 use Rattle.editor.specs.Rules.Plain.{Side, Plain, quiet, rang, Did, reporting, within, done}
 use Rattle.editor.specs.Rules.Passages.{passageTo}
 use Rattle.editor.specs.Rules.Keys.{carried, withSide, matches, searched, exchanged, substituted, fits, bounded}
-use Rattle.editor.specs.Rules.Bytes.{Stores, sizesOf, plainOf, editedTo, SoundPlain}
+use Rattle.editor.specs.Rules.Bytes.{Stores, sizesOf, plainOf, editedTo, SoundTexts}
 use Rattle.editor.specs.Wording.Promise.{Sound, stores, doneReply, written, EditsSide, replyOf}
 use Rattle.editor.proofs.Laws.States.{sound-fits, searched-sound}
 use Rattle.editor.proofs.Laws.SideEdits.{landed, not-did}
@@ -71,8 +71,8 @@ module _ (Q : ℕ) (n : Lengths) (b : Stores) (sound : Sound Q n b) where
   held : Sized n p
   held = sizes Q n b sound
 
-  sound-held : SoundPlain T Q p
-  sound-held = session-encoded Q n b (sound .tabled) (sound .ok) .sound
+  sound-held : SoundTexts T Q p
+  sound-held = session-encoded Q n b (sound .tabled) (sound .ok) .sound .texts
 
   -- The pattern and the replacement's store, as the code lends them.
   abbrev patternLent : List ℕ
@@ -95,10 +95,10 @@ module _ (Q : ℕ) (n : Lengths) (b : Stores) (sound : Sound Q n b) where
   main-done : (did : Did Side) (whole : Did Plain) → within (λ s. withSide Main s p) did ≡ whole → fits T Q (whole .state) ≡ true
       → (t : SideReply) (reply : EditorReply) (text recall : List ℕ) → reply ≡ replyOf Main n t
       → record { reply = t; text = text; recall = recall } ≡ written (n .main) (b .text) (b .recall) did
-      → record { reply = reply; stores = stores text recall (b .side) } ≡ editedTo Q n b (done whole)
+      → record { reply = reply; stores = stores text recall (b .held) (b .side) } ≡ editedTo Q n b (done whole)
   unfolding bounded
   main-done did whole same room t reply text recall e turns =
-      (λ i. record { reply = e i; stores = stores text recall (b .side) }) ∙ all-landed Q n b sound Main did t text recall turns
+      (λ i. record { reply = e i; stores = stores text recall (b .held) (b .side) }) ∙ all-landed Q n b sound Main did t text recall turns
       ∙ ap (λ did. editedTo Q n b (bounded T Q did)) same ∙ ap (editedTo Q n b) (cond-true _ _ room)
 
   -- ---- The search
@@ -112,7 +112,7 @@ module _ (Q : ℕ) (n : Lengths) (b : Stores) (sound : Sound Q n b) where
 
     pub search-done : (t : SideReply) (reply : EditorReply) (text recall : List ℕ) → reply ≡ replyOf Main n t
         → EditsSide t (n .main) (carried Move way found) (b .text) (b .recall) text recall
-        → record { reply = reply; stores = stores text recall (b .side) } ≡ editedTo Q n b (done (searched way p))
+        → record { reply = reply; stores = stores text recall (b .held) (b .side) } ≡ editedTo Q n b (done (searched way p))
     unfolding plainOf
     search-done t reply text recall e turns =
         main-done (carried Move way found (p .main)) (searched way p) found-as (sound-fits T Q _ (searched-sound T Q way p sound-held))
@@ -186,7 +186,7 @@ module _ (Q : ℕ) (n : Lengths) (b : Stores) (sound : Sound Q n b) where
         (splice 0 0 (unpair (n .xl) (n .xr) replacementLent) (ungap (n .main .l) (n .main .r - n .pl) dropped))
         → recall ≡ patternLent ++ zeros (length (b .recall) - length patternLent)
         → {t : SideReply} {report : Report} → reply ≡ replyOf Main n t → t ≡ doneReply report (exchangedBy n) → report ≡ quiet
-        → record { reply = reply; stores = stores text recall (b .side) } ≡ editedTo Q n b (done (substituted p))
+        → record { reply = reply; stores = stores text recall (b .held) (b .side) } ≡ editedTo Q n b (done (substituted p))
     substitute-done dropped text recall reply less e f lifted answer said =
         main-done (reporting quiet (exchanged p)) (substituted p) exchanged-as room _ reply text recall lifted
         (landed (n .main) (b .text) (b .recall) (reporting quiet (exchanged p)) answer said exchanged-fits exchanged-sizes

@@ -19,7 +19,7 @@ use Rattle.gap.proofs.Laws.Layout.{length-gapped, length-paired}
 use Rattle.editor.specs.Words.{Direction, Mode, Main, Quoted, Lengths}
 use Rattle.editor.specs.Rules.Plain.{Plain, Did, done}
 use Rattle.editor.specs.Rules.Keys.{withPattern, searched, found, withReplacement, substituted, replaced, fits, bounded}
-use Rattle.editor.specs.Rules.Bytes.{Stores, Edited, quarterOf, alone, lengthsOf, storesOf, plainOf, editedTo, SoundPlain, Encoded, noSizes}
+use Rattle.editor.specs.Rules.Bytes.{Stores, Edited, quarterOf, alone, lengthsOf, storesOf, plainOf, editedTo, SoundTexts, SoundPlain, Encoded, noSizes}
 use Rattle.editor.specs.Wording.Promise.{Sound, stores, patternTaken, replacementTaken, handed}
 use Rattle.editor.proofs.Laws.Quotation.{no-quotation, copied-whole}
 use Rattle.editor.proofs.Laws.Session.{measured}
@@ -71,17 +71,17 @@ handed-side Q at d recall x y z fits recall-fits place size =
 
 -- Stores in which a quotation was handed over to the quarter at a place.
 abbrev handedOver : ℕ → ℕ → Doc → Stores → Stores
-handedOver Q at d b = stores (b .text) (b .recall) (patch 0 (zeros (2 * Q)) (patch at (paired Q d) (b .side)))
+handedOver Q at d b = stores (b .text) (b .recall) (b .held) (patch 0 (zeros (2 * Q)) (patch at (paired Q d) (b .side)))
 
 -- Those of a plain state become the stores of the state in which the quotation is the pattern, or the replacement.
-module _ (T Q : ℕ) (p : Plain) (s : SoundPlain T Q p) where
+module _ (T Q : ℕ) (p : Plain) (s : SoundTexts T Q p) where
   pattern-length : length (paired Q (alone (p .pattern))) ≡ Q
   pattern-length = length-paired Q (alone (p .pattern)) (s .pattern .fits)
 
   pattern-given : storesOf T Q (withPattern Quoted p) ≡ handedOver Q (2 * Q) (p .quoted .text) (storesOf T Q p)
   unfolding storesOf withPattern
   pattern-given =
-      ap (λ side. stores (storesOf T Q p .text) (storesOf T Q p .recall) side)
+      ap (λ side. stores (storesOf T Q p .text) (storesOf T Q p .recall) (storesOf T Q p .held) side)
       (ap (λ run. gapped Q empty ++ (paired Q empty ++ (run ++ paired Q (p .replacement)))) (same-pair Q (p .quoted .text))
       ∙ sym (handed-side Q (2 * Q) (p .quoted .text) (p .quoted .recall) [] (paired Q (alone (p .pattern))) (paired Q (p .replacement))
       (s .quotation .fits) (s .itsRecall .fits) (omega arith) pattern-length))
@@ -90,7 +90,7 @@ module _ (T Q : ℕ) (p : Plain) (s : SoundPlain T Q p) where
   unfolding storesOf withReplacement
   replacement-given =
       let place : 2 * Q + length (paired Q (alone (p .pattern))) ≡ 3 * Q = rw pattern-length (omega arith) in
-      ap (λ side. stores (storesOf T Q p .text) (storesOf T Q p .recall) side)
+      ap (λ side. stores (storesOf T Q p .text) (storesOf T Q p .recall) (storesOf T Q p .held) side)
       (simp append-nil at
       (sym (handed-side Q (3 * Q) (p .quoted .text) (p .quoted .recall) (paired Q (alone (p .pattern))) (paired Q (p .replacement)) []
       (s .quotation .fits) (s .itsRecall .fits) place (length-paired Q (p .replacement) (s .replacement .fits)))))
@@ -105,7 +105,10 @@ encoded-holds : (T Q : ℕ) (p : Plain) (n : Lengths) (b : Stores) → 1 ≤ T �
     → lengthsOf p ≡ n → storesOf T Q p ≡ b → Holds Q p n b
 encoded-holds T Q p n b low high s e f =
     rw (← e, ← f)
-    record { sound = record { tabled = encoded-sized T Q p low high s; ok = encoded-ok T Q p s }; plain = plain-of-encoded T Q p s }
+    record {
+      sound = record { tabled = encoded-sized T Q p low high (s .texts); ok = encoded-ok T Q p (s .texts) (s .mark) };
+      plain = plain-of-encoded T Q p (s .texts);
+    }
 
 module _ (Q : ℕ) (n : Lengths) (b : Stores) (sound : Sound Q n b) where
   abbrev p : Plain
@@ -123,7 +126,7 @@ module _ (Q : ℕ) (n : Lengths) (b : Stores) (sound : Sound Q n b) where
 
   handed-holds : (at : ℕ) (q : Plain) (m : Lengths) (side : List ℕ) → SoundPlain T Q q → lengthsOf q ≡ m
       → storesOf T Q q ≡ handedOver Q at (p .quoted .text) (storesOf T Q p) → side ≡ sideGiven at
-      → Holds Q q m (stores (b .text) (b .recall) side)
+      → Holds Q q m (stores (b .text) (b .recall) (b .held) side)
   unfolding plainOf
   handed-holds at q m side s e f here =
       let known = measured Q b (sound .tabled) in
@@ -131,12 +134,12 @@ module _ (Q : ℕ) (n : Lengths) (b : Stores) (sound : Sound Q n b) where
       (encoded-holds T Q q m (handedOver Q at (p .quoted .text) b) (known .low) (known .high) s e
       (f ∙ ap (handedOver Q at (p .quoted .text)) (encoded .stores)))
 
-  kept : {m : Lengths} {side : List ℕ} → m ≡ n → side ≡ b .side → Holds Q p m (stores (b .text) (b .recall) side)
+  kept : {m : Lengths} {side : List ℕ} → m ≡ n → side ≡ b .side → Holds Q p m (stores (b .text) (b .recall) (b .held) side)
   kept e here = rw (e, here) (record { sound = sound; plain = refl })
 
   -- In QUOTED the quotation becomes the pattern, or the replacement; in MAIN everything stays.
   pattern-in : (mode : Mode) {m : Lengths} {side : List ℕ} → n .mode ≡ mode → m ≡ patternTaken mode n
-      → side ≡ handed Q mode (n .quoted) (2 * Q) (b .side) → Holds Q (withPattern mode p) m (stores (b .text) (b .recall) side)
+      → side ≡ handed Q mode (n .quoted) (2 * Q) (b .side) → Holds Q (withPattern mode p) m (stores (b .text) (b .recall) (b .held) side)
   unfolding withPattern lengthsOf
   pattern-in Main mode e here = kept e here
   pattern-in Quoted {m} {side} mode e here =
@@ -149,12 +152,16 @@ module _ (Q : ℕ) (n : Lengths) (b : Stores) (sound : Sound Q n b) where
         xr = same i .xr;
         pl = whole i;
         mode = Main;
+        hl = same i .hl;
+        hr = same i .hr;
+        mark = same i .mark;
       } in
-      handed-holds (2 * Q) (withPattern Quoted p) m side (with-pattern-sound T Q Quoted p (encoded .sound)) (lengths ∙ sym e)
-      (pattern-given T Q p (encoded .sound)) here
+      handed-holds (2 * Q) (withPattern Quoted p) m side (record { texts = with-pattern-sound T Q Quoted p (encoded .sound .texts); mark = encoded .sound .mark })
+      (lengths ∙ sym e)
+      (pattern-given T Q p (encoded .sound .texts)) here
 
   replacement-in : (mode : Mode) {m : Lengths} {side : List ℕ} → n .mode ≡ mode → m ≡ replacementTaken mode n
-      → side ≡ handed Q mode (n .quoted) (3 * Q) (b .side) → Holds Q (withReplacement mode p) m (stores (b .text) (b .recall) side)
+      → side ≡ handed Q mode (n .quoted) (3 * Q) (b .side) → Holds Q (withReplacement mode p) m (stores (b .text) (b .recall) (b .held) side)
   unfolding withReplacement lengthsOf
   replacement-in Main mode e here = kept e here
   replacement-in Quoted {m} {side} mode e here =
@@ -166,40 +173,44 @@ module _ (Q : ℕ) (n : Lengths) (b : Stores) (sound : Sound Q n b) where
         xr = same i .quoted .r;
         pl = same i .pl;
         mode = Main;
+        hl = same i .hl;
+        hr = same i .hr;
+        mark = same i .mark;
       } in
-      handed-holds (3 * Q) (withReplacement Quoted p) m side (with-replacement-sound T Q Quoted p (encoded .sound)) (lengths ∙ sym e)
-      (replacement-given T Q p (encoded .sound)) here
+      handed-holds (3 * Q) (withReplacement Quoted p) m side
+      (record { texts = with-replacement-sound T Q Quoted p (encoded .sound .texts); mark = encoded .sound .mark }) (lengths ∙ sym e)
+      (replacement-given T Q p (encoded .sound .texts)) here
 
   pub pattern-holds : {m : Lengths} {side : List ℕ} → m ≡ patternTaken (n .mode) n → side ≡ handed Q (n .mode) (n .quoted) (2 * Q) (b .side)
-      → Holds Q (withPattern (p .mode) p) m (stores (b .text) (b .recall) side)
+      → Holds Q (withPattern (p .mode) p) m (stores (b .text) (b .recall) (b .held) side)
   unfolding plainOf
   pattern-holds e here = pattern-in (n .mode) refl e here
 
   pub replacement-holds : {m : Lengths} {side : List ℕ} → m ≡ replacementTaken (n .mode) n
-      → side ≡ handed Q (n .mode) (n .quoted) (3 * Q) (b .side) → Holds Q (withReplacement (p .mode) p) m (stores (b .text) (b .recall) side)
+      → side ≡ handed Q (n .mode) (n .quoted) (3 * Q) (b .side) → Holds Q (withReplacement (p .mode) p) m (stores (b .text) (b .recall) (b .held) side)
   unfolding plainOf
   replacement-holds e here = replacement-in (n .mode) refl e here
 
   -- A key that is done on the record and stores handed over is done on those before: nothing of what it was given is left then.
-  module _ {q : Plain} {m : Lengths} {side : List ℕ} (h : Holds Q q m (stores (b .text) (b .recall) side)) where
+  module _ {q : Plain} {m : Lengths} {side : List ℕ} (h : Holds Q q m (stores (b .text) (b .recall) (b .held) side)) where
     abbrev after : (Plain → Did Plain) → Edited
-    after act = editedTo Q m (stores (b .text) (b .recall) side) (done (act (plainOf Q m (stores (b .text) (b .recall) side))))
+    after act = editedTo Q m (stores (b .text) (b .recall) (b .held) side) (done (act (plainOf Q m (stores (b .text) (b .recall) (b .held) side))))
 
     handed-done : (act : Plain → Did Plain) → fits T Q (act q .state) ≡ true → after act ≡ editedTo Q n b (bounded T Q (act q))
     unfolding bounded
     handed-done act room = ap (λ q. editedTo Q n b (done (act q))) (h .plain) ∙ ap (editedTo Q n b) (sym (cond-true _ _ room))
 
   -- So FIND is a search once the quotation is the pattern, and always has room; REPLACE is a substitution once it is the replacement.
-  pub find-done : {m : Lengths} {side : List ℕ} → Holds Q (withPattern (p .mode) p) m (stores (b .text) (b .recall) side)
+  pub find-done : {m : Lengths} {side : List ℕ} → Holds Q (withPattern (p .mode) p) m (stores (b .text) (b .recall) (b .held) side)
       → (way : Direction)
-      → editedTo Q m (stores (b .text) (b .recall) side) (done (searched way (plainOf Q m (stores (b .text) (b .recall) side))))
+      → editedTo Q m (stores (b .text) (b .recall) (b .held) side) (done (searched way (plainOf Q m (stores (b .text) (b .recall) (b .held) side))))
       ≡ editedTo Q n b (bounded T Q (found way p))
   unfolding found
-  find-done h way = handed-done h (searched way) (sound-fits T Q _ (found-sound T Q way p (encoded .sound)))
+  find-done h way = handed-done h (searched way) (sound-fits T Q _ (found-sound T Q way p (encoded .sound .texts)))
 
-  pub replace-done : {m : Lengths} {side : List ℕ} → Holds Q (withReplacement (p .mode) p) m (stores (b .text) (b .recall) side)
+  pub replace-done : {m : Lengths} {side : List ℕ} → Holds Q (withReplacement (p .mode) p) m (stores (b .text) (b .recall) (b .held) side)
       → fits T Q (replaced p .state) ≡ true
-      → editedTo Q m (stores (b .text) (b .recall) side) (done (substituted (plainOf Q m (stores (b .text) (b .recall) side))))
+      → editedTo Q m (stores (b .text) (b .recall) (b .held) side) (done (substituted (plainOf Q m (stores (b .text) (b .recall) (b .held) side))))
       ≡ editedTo Q n b (bounded T Q (replaced p))
   unfolding replaced
   replace-done h room = handed-done h substituted room

@@ -34,15 +34,17 @@ zeros-side Q =
     ∙ ap (λ rest. gapped Q empty ++ (paired Q empty ++ rest)) (pairs-twice Q)
 
 -- What `open_stores` leaves, call by call.
-pub stores-opened : (n : ℕ) (b : Stores) → sized quarter b ≡ true → n ≤ length (b .text) → {m : Lengths} {text recall side : List ℕ}
+pub stores-opened : (n : ℕ) (b : Stores) → sized quarter b ≡ true → n ≤ length (b .text) → {m : Lengths} {text recall held side : List ℕ}
     → m ≡ openingLengths n → text ≡ gapped (length (b .text)) (record { l = []; r = take n (b .text) })
-    → recall ≡ zeros (length (b .recall)) → side ≡ zeros (length (b .side)) → Opens m n b (stores text recall side)
+    → recall ≡ zeros (length (b .recall)) → held ≡ zeros (length (b .held)) → side ≡ zeros (length (b .side))
+    → Opens m n b (stores text recall held side)
 unfolding lengthsOf storesOf
-stores-opened n b fit fits lengths opened recalled cleared =
+stores-opened n b fit fits lengths opened recalled emptied cleared =
     let sizes = measured quarter b fit in
     let recall-then = recalled ∙ ap zeros (sizes .recall) ∙ zeros-pair (length (b .text)) in
+    let held-then = emptied ∙ ap zeros (sizes .held) ∙ zeros-pair (length (b .text)) in
     let side-then = cleared ∙ ap zeros (sizes .side) ∙ zeros-side quarter in
     record {
       lengths = lengths ∙ ap openingLengths (sym (length-take-le n (b .text) fits));
-      stores = λ i. stores (opened i) (recall-then i) (side-then i);
+      stores = λ i. stores (opened i) (recall-then i) (held-then i) (side-then i);
     }

@@ -34,19 +34,19 @@ decide-number true false did n e = inr (cc)
 decide-number false room did n e = inl (cc)
 
 module _ (T Q : ℕ) (k : Key) (p : Plain) where
-  pub key-refused : (key T Q k p ≡ refused KEY) ↔ (soundKey k ≡ false)
+  pub key-refused : (key T Q k p ≡ refused KEY) ↔ (soundKey (p .mode) k ≡ false)
   unfolding key bounded
-  key-refused = decide-key (soundKey k) (fits T Q (pressed k p .state)) (pressed k p)
+  key-refused = decide-key (soundKey (p .mode) k) (fits T Q (pressed k p .state)) (pressed k p)
 
-  pub full-refused : (key T Q k p ≡ refused FULL) ↔ ((soundKey k ≡ true) × (fits T Q (pressed k p .state) ≡ false))
+  pub full-refused : (key T Q k p ≡ refused FULL) ↔ ((soundKey (p .mode) k ≡ true) × (fits T Q (pressed k p .state) ≡ false))
   unfolding key bounded
-  full-refused = decide-full (soundKey k) (fits T Q (pressed k p .state)) (pressed k p)
+  full-refused = decide-full (soundKey (p .mode) k) (fits T Q (pressed k p .state)) (pressed k p)
 
   pub accepted : (did : Did Plain)
-      → (key T Q k p ≡ done did) ↔ ((soundKey k ≡ true) × (fits T Q (pressed k p .state) ≡ true) × (pressed k p ≡ did))
+      → (key T Q k p ≡ done did) ↔ ((soundKey (p .mode) k ≡ true) × (fits T Q (pressed k p .state) ≡ true) × (pressed k p ≡ did))
   unfolding key bounded
-  accepted did = decide-done (soundKey k) (fits T Q (pressed k p .state)) (pressed k p) did
+  accepted did = decide-done (soundKey (p .mode) k) (fits T Q (pressed k p .state)) (pressed k p) did
 
   pub refusal-number : (n : ℕ) → key T Q k p ≡ refused n → (n ≡ KEY) ⊎ (n ≡ FULL)
   unfolding key bounded
-  refusal-number n e = decide-number (soundKey k) (fits T Q (pressed k p .state)) (pressed k p) n e
+  refusal-number n e = decide-number (soundKey (p .mode) k) (fits T Q (pressed k p .state)) (pressed k p) n e

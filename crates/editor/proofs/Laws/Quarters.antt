@@ -12,7 +12,7 @@ use Rattle.gap.specs.Rules.Layout.{gapped, paired}
 use Rattle.gap.proofs.Laws.Sequence.{length-part}
 use Rattle.gap.proofs.Laws.Layout.{length-gapped, length-paired}
 use Rattle.editor.specs.Rules.Plain.{Plain}
-use Rattle.editor.specs.Rules.Bytes.{quarterOf, alone, storesOf, SoundPlain}
+use Rattle.editor.specs.Rules.Bytes.{quarterOf, alone, storesOf, SoundTexts}
 
 -- Quarters 0 to n, joined.
 abbrev pub joined : (ℕ → List ℕ) → ℕ → List ℕ
@@ -75,7 +75,7 @@ quartersOf Q p (suc zero) = paired Q (p .quoted .recall)
 quartersOf Q p (suc (suc zero)) = paired Q (alone (p .pattern))
 quartersOf Q p (suc (suc (suc i))) = paired Q (p .replacement)
 
-module _ (T Q : ℕ) (p : Plain) (s : SoundPlain T Q p) where
+module _ (T Q : ℕ) (p : Plain) (s : SoundTexts T Q p) where
   length-quarters : (i : ℕ) → length (quartersOf Q p i) ≡ Q
   length-quarters zero = length-gapped Q (p .quoted .text) (s .quotation .fits)
   length-quarters (suc zero) = length-paired Q (p .quoted .recall) (s .itsRecall .fits)

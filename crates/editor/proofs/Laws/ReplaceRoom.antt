@@ -16,7 +16,7 @@ use Rattle.editor.specs.Words.{Mode, Main, Quoted, Lengths}
 use Rattle.editor.specs.Rules.Refusals.{FULL}
 use Rattle.editor.specs.Rules.Plain.{Plain, Did}
 use Rattle.editor.specs.Rules.Keys.{matches, withReplacement, substituted, replaced, fits, bounded}
-use Rattle.editor.specs.Rules.Bytes.{Stores, plainOf, unedited, editedTo, SoundPlain, Encoded}
+use Rattle.editor.specs.Rules.Bytes.{Stores, plainOf, unedited, editedTo, SoundTexts, Encoded}
 use Rattle.editor.specs.declared.EditorReply.{EditorReply}
 use Rattle.editor.specs.Wording.Promise.{Sound, replacementTaken}
 use Rattle.editor.proofs.Laws.HandedOver.{Holds}
@@ -120,8 +120,8 @@ module _ (Q : ℕ) (n : Lengths) (b : Stores) (sound : Sound Q n b) where
     abbrev next : Plain
     next = withReplacement (p .mode) p
 
-    next-sound : SoundPlain T Q next
-    next-sound = with-replacement-sound T Q (p .mode) p (encoded .sound)
+    next-sound : SoundTexts T Q next
+    next-sound = with-replacement-sound T Q (p .mode) p (encoded .sound .texts)
 
     -- It fails exactly where FULL is due.
     pub replace-refused : ok ≡ false → {reply : EditorReply} → reply ≡ unedited FULL n

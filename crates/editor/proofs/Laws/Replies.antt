@@ -1,4 +1,4 @@
--- Replies to keys: what a session gives each of its sides, and what a key on one side is on all three stores.
+-- Replies to keys: what a session gives each of its sides, and what a key on one side is on all four stores.
 use mathlib.Core.Path.{_≡_, refl, sym, ap, _∙_}
 use mathlib.Core.Bool.{Bool, true, false, cond, and-true}
 use mathlib.Core.List.{List, _++_, append-assoc}
@@ -19,7 +19,7 @@ use Rattle.editor.specs.declared.EditorReply.{EditorReply}
 use Rattle.editor.specs.Rules.Refusals.{FULL}
 use Rattle.editor.specs.Rules.Plain.{Side, emptySide, Plain, quiet, Did, within, refused, done}
 use Rattle.editor.specs.Rules.Keys.{sideOf, withSide, onSide, otherMode, quoted, fits, bounded}
-use Rattle.editor.specs.Rules.Bytes.{Stores, Edited, quarterOf, alone, sizesOf, plainOf, lengthsOf, storesOf, unedited, editedTo, SoundPlain, Encoded}
+use Rattle.editor.specs.Rules.Bytes.{Stores, Edited, quarterOf, alone, sizesOf, plainOf, lengthsOf, storesOf, unedited, editedTo, SoundTexts, Encoded}
 use Rattle.editor.specs.Wording.Promise.{OnSide, sideHeld, SideEdited, written, EditsSide, Sound, stores, cleared, sizedIn, replyOf}
 use Rattle.gap.proofs.Laws.Holdable.{content-fits}
 use Rattle.editor.proofs.Laws.Quarters.{length-quarter}
@@ -43,22 +43,22 @@ recallAt Q Quoted b = quarterOf Q 1 (b .side)
 
 -- The stores with another text and another recall text on that side.
 abbrev pub placed : ℕ → Mode → List ℕ → List ℕ → Stores → Stores
-placed Q Main text recall b = stores text recall (b .side)
-placed Q Quoted text recall b = stores (b .text) (b .recall) (text ++ (recall ++ drop (2 * Q) (b .side)))
+placed Q Main text recall b = stores text recall (b .held) (b .side)
+placed Q Quoted text recall b = stores (b .text) (b .recall) (b .held) (text ++ (recall ++ drop (2 * Q) (b .side)))
 
 placed-same : (Q : ℕ) (m : Mode) (b : Stores) → placed Q m (textAt Q m b) (recallAt Q m b) b ≡ b
 placed-same Q Main b = refl
-placed-same Q Quoted b = ap (stores (b .text) (b .recall)) (two-quarters Q (b .side))
+placed-same Q Quoted b = ap (stores (b .text) (b .recall) (b .held)) (two-quarters Q (b .side))
 
 -- Stores that differ in the quotation's two quarters only.
-quotation-placed : (Q : ℕ) (text recall side then : List ℕ) → drop (2 * Q) then ≡ drop (2 * Q) side
-    → stores text recall then ≡ placed Q Quoted (quarterOf Q 0 then) (quarterOf Q 1 then) (stores text recall side)
-quotation-placed Q text recall side then e =
-    sym (placed-same Q Quoted (stores text recall then))
-    ∙ ap (λ rest. stores text recall (quarterOf Q 0 then ++ (quarterOf Q 1 then ++ rest))) e
+quotation-placed : (Q : ℕ) (b : Stores) (then : List ℕ) → drop (2 * Q) then ≡ drop (2 * Q) (b .side)
+    → stores (b .text) (b .recall) (b .held) then ≡ placed Q Quoted (quarterOf Q 0 then) (quarterOf Q 1 then) b
+quotation-placed Q b then e =
+    sym (placed-same Q Quoted (stores (b .text) (b .recall) (b .held) then))
+    ∙ ap (λ rest. stores (b .text) (b .recall) (b .held) (quarterOf Q 0 then ++ (quarterOf Q 1 then ++ rest))) e
 
 -- The pattern and the replacement stand behind the quotation's two quarters.
-behind-quotation : (T Q : ℕ) (p : Plain) → SoundPlain T Q p
+behind-quotation : (T Q : ℕ) (p : Plain) → SoundTexts T Q p
     → drop (2 * Q) (storesOf T Q p .side) ≡ paired Q (alone (p .pattern)) ++ paired Q (p .replacement)
 unfolding storesOf
 behind-quotation T Q p sound =
@@ -69,13 +69,13 @@ behind-quotation T Q p sound =
     ap (drop (2 * Q)) (sym (append-assoc text recall _)) ∙ drop-at (text ++ recall) _ (2 * Q) (rw length-append (omega arith))
 
 -- A sound state with another side: its encoding, when it fits, and its lengths.
-module _ (T Q : ℕ) (s : Side) (p : Plain) (sound : SoundPlain T Q p) where
+module _ (T Q : ℕ) (s : Side) (p : Plain) (sound : SoundTexts T Q p) where
   placed-with : (m : Mode) → placed Q m (gapped (limit T Q m) (s .text)) (paired (limit T Q m) (s .recall)) (storesOf T Q p)
       ≡ storesOf T Q (withSide m s p)
   unfolding storesOf
   placed-with Main = refl
   placed-with Quoted =
-      ap (λ rest. stores (gapped T (p .main .text)) (paired T (p .main .recall)) (gapped Q (s .text) ++ (paired Q (s .recall) ++ rest)))
+      ap (λ rest. stores (gapped T (p .main .text)) (paired T (p .main .recall)) (paired T (p .held)) (gapped Q (s .text) ++ (paired Q (s .recall) ++ rest)))
       (behind-quotation T Q p sound)
 
   fits-with : (m : Mode) → leb (length (content (s .text))) (limit T Q m) ≡ fits T Q (withSide m s p)
@@ -126,7 +126,7 @@ module _ (Q : ℕ) (n : Lengths) (b : Stores) (sound : Sound Q n b) where
   length-recall : (m : Mode) → length (recallAt Q m b) ≡ limit T Q m
   length-recall m = on-side m .same ∙ length-text m
 
-  -- What a key on a side answers, as an answer on all three stores.
+  -- What a key on a side answers, as an answer on all four stores.
   answer : Mode → SideEdited → Edited
   answer m t = record { reply = replyOf m n (t .reply); stores = placed Q m (t .text) (t .recall) b }
 
@@ -145,7 +145,7 @@ module _ (Q : ℕ) (n : Lengths) (b : Stores) (sound : Sound Q n b) where
         ≡ storesOf T Q (all .state)
     stores-with =
         (λ i. placed Q m (gapped (length-text m i) (left .text)) (paired (length-recall m i) (left .recall)) (sym (encoded .stores) i))
-        ∙ placed-with T Q left p (encoded .sound) m
+        ∙ placed-with T Q left p (encoded .sound .texts) m
 
     answered : (room : Bool) → leb (length (content (left .text))) (length (textAt Q m b)) ≡ room
         → answer m (written (sizesAt m n) (textAt Q m b) (recallAt Q m b) did) ≡ editedTo Q n b (cond room (done all) (refused FULL))
@@ -156,14 +156,14 @@ module _ (Q : ℕ) (n : Lengths) (b : Stores) (sound : Sound Q n b) where
     }
     answered false e = ap (answer m) (cond-false _ _ e) ∙ λ i. record { reply = unedited FULL n; stores = placed-same Q m b i }
 
-    -- A key on a side, done or refused as full, is that key on all three stores: the side that it leaves alone fits anyway.
+    -- A key on a side, done or refused as full, is that key on all four stores: the side that it leaves alone fits anyway.
     pub landed : (t : SideReply) (text recall : List ℕ)
         → record { reply = t; text = text; recall = recall } ≡ written (sizesAt m n) (textAt Q m b) (recallAt Q m b) did
         → record { reply = replyOf m n t; stores = placed Q m text recall b } ≡ editedTo Q n b (bounded T Q (within (λ s. withSide m s p) did))
     unfolding answer bounded
     landed t text recall e =
         ap (answer m) e
-        ∙ answered _ (ap (leb (length (content (left .text)))) (length-text m) ∙ fits-with T Q left p (encoded .sound) m)
+        ∙ answered _ (ap (leb (length (content (left .text)))) (length-text m) ∙ fits-with T Q left p (encoded .sound .texts) m)
 
   side-held : (m : Mode) → sideHeld (sizesAt m n) (textAt Q m b) (recallAt Q m b) ≡ sideOf m p
   unfolding plainOf
@@ -187,22 +187,22 @@ module _ (Q : ℕ) (n : Lengths) (b : Stores) (sound : Sound Q n b) where
       → n .mode ≡ Quoted → r ≡ replyOf (n .mode) n t
       → EditsSide t (n .quoted) edit (quarterOf Q 0 (b .side)) (quarterOf Q 1 (b .side)) (quarterOf Q 0 side) (quarterOf Q 1 side)
       → drop (2 * Q) side ≡ drop (2 * Q) (b .side)
-      → record { reply = r; stores = stores (b .text) (b .recall) side } ≡ editedTo Q n b (bounded T Q (onSide edit p))
+      → record { reply = r; stores = stores (b .text) (b .recall) (b .held) side } ≡ editedTo Q n b (bounded T Q (onSide edit p))
   on-quotation edit r t side mode reply turns rest =
-      (λ i. record { reply = r; stores = quotation-placed Q (b .text) (b .recall) (b .side) side rest i })
+      (λ i. record { reply = r; stores = quotation-placed Q b side rest i })
       ∙ on-mode Quoted edit r t (quarterOf Q 0 side) (quarterOf Q 1 side) mode reply turns
 
   -- QUOTE: both of the quotation's quarters become free.
   pub quote-done : {r : EditorReply} {report : Report} {m : Lengths} (side : List ℕ) → r ≡ record { code = 0; report = report; lengths = m }
       → report ≡ quiet → m ≡ cleared (otherMode (n .mode)) n → side ≡ patch 0 (zeros (2 * Q)) (b .side)
-      → record { reply = r; stores = stores (b .text) (b .recall) side } ≡ editedTo Q n b (bounded T Q (quoted p))
+      → record { reply = r; stores = stores (b .text) (b .recall) (b .held) side } ≡ editedTo Q n b (bounded T Q (quoted p))
   unfolding quoted bounded lengthsOf storesOf
   quote-done side replied said taken freed =
-      let room : fits T Q (quoted p .state) ≡ true = sound-fits T Q (quoted p .state) (quoted-sound T Q p (encoded .sound)) in
+      let room : fits T Q (quoted p .state) ≡ true = sound-fits T Q (quoted p .state) (quoted-sound T Q p (encoded .sound .texts)) in
       let lengths = taken ∙ ap (λ n. cleared (otherMode (n .mode)) n) (sym (encoded .lengths)) in
-      let then : stores (b .text) (b .recall) side ≡ storesOf T Q (quoted p .state) =
-      ap (stores (b .text) (b .recall)) (freed ∙ quotation-cleared Q (b .side))
+      let then : stores (b .text) (b .recall) (b .held) side ≡ storesOf T Q (quoted p .state) =
+      ap (stores (b .text) (b .recall) (b .held)) (freed ∙ quotation-cleared Q (b .side))
       ∙ ap (placed Q Quoted (gapped Q empty) (paired Q empty)) (sym (encoded .stores))
-      ∙ placed-with T Q emptySide p (encoded .sound) Quoted in
+      ∙ placed-with T Q emptySide p (encoded .sound .texts) Quoted in
       (λ i. record { reply = (replied ∙ λ i. record { code = 0; report = said i; lengths = lengths i }) i; stores = then i })
       ∙ ap (editedTo Q n b) (sym (cond-true (done (quoted p)) (refused FULL) room))

@@ -16,7 +16,7 @@ use Rattle.editor.specs.Rules.Keys.{sideOf, withSide, onSide}
 use Rattle.editor.specs.Rules.Keys.{matches, exchanged, substituted, fits}
 use Rattle.gap.proofs.Laws.Compared.{begins-fits}
 use Rattle.gap.proofs.Laws.Holdable.{length-splice}
-use Rattle.editor.specs.Rules.Bytes.{SoundPlain}
+use Rattle.editor.specs.Rules.Bytes.{SoundTexts}
 use Rattle.editor.proofs.Laws.States.{limit, sound-fits}
 
 -- A test that fails exactly in one case passes exactly in the other.
@@ -43,11 +43,11 @@ pub fits-within : (T Q : ℕ) (p : Plain) → (fits T Q p ≡ true) ↔ (¬ Exce
 fits-within T Q p = holds (fits T Q p) (fits-not T Q p)
 
 -- In a session nothing exceeds.
-pub keeps-within : (T Q : ℕ) (p : Plain) → SoundPlain T Q p → ¬ Exceeds T Q p
+pub keeps-within : (T Q : ℕ) (p : Plain) → SoundTexts T Q p → ¬ Exceeds T Q p
 keeps-within T Q p sound = fits-within T Q p .0 (sound-fits T Q p sound)
 
 -- After an edit of the mode's side only that side can exceed.
-pub on-side-exceeds : (T Q : ℕ) (edit : Side → Did Side) (p : Plain) → SoundPlain T Q p
+pub on-side-exceeds : (T Q : ℕ) (edit : Side → Did Side) (p : Plain) → SoundTexts T Q p
     → Exceeds T Q (onSide edit p .state) ↔ (limit T Q (p .mode) < length (content (edit (sideOf (p .mode) p) .state .text)))
 unfolding onSide
 on-side-exceeds T Q edit p sound = go (p .mode)
@@ -73,7 +73,7 @@ length-exchanged p match =
     omega (arith, length-splice 0 (length (p .pattern)) x d, length-append (d .l) (d .r), length-append (x .l) (x .r))
 
 -- Only the document can exceed then.
-pub substituted-exceeds : (T Q : ℕ) (p : Plain) → SoundPlain T Q p → matches (p .pattern) (p .main .text) ≡ true
+pub substituted-exceeds : (T Q : ℕ) (p : Plain) → SoundTexts T Q p → matches (p .pattern) (p .main .text) ≡ true
     → Exceeds T Q (substituted p .state)
     ↔ (T < length (content (p .main .text)) - length (p .pattern) + length (content (p .replacement)))
 unfolding substituted

@@ -17,7 +17,7 @@ use Rattle.editor.specs.Words.{Direction, Action, Move, Place, Mode, Mai
 use Rattle.editor.specs.Rules.Places.{isAt}
 use Rattle.editor.specs.Rules.Passages.{passageTo}
 use Rattle.editor.specs.Rules.Plain.{Side, emptySide, Plain, quiet, rang, Did, reporting}
-use Rattle.editor.specs.Rules.Bytes.{alone, sizesOf, unquoted, SoundPlain}
+use Rattle.editor.specs.Rules.Bytes.{alone, sizesOf, unquoted, SoundTexts}
 use Rattle.editor.specs.Rules.Keys.{function, sideOf, withSide, onSide, otherMode, quoted, withPattern, matches, searched, found}
 use Rattle.editor.specs.Rules.Keys.{withReplacement, exchanged, substituted, fits}
 use Rattle.editor.proofs.Laws.Sides.{SoundSide, carried-sound}
@@ -38,12 +38,12 @@ same-document Main p = refl
 same-document Quoted p = refl
 
 -- Both sides of a sound state are sound.
-pub side-sound : (T Q : ℕ) (mode : Mode) (p : Plain) → SoundPlain T Q p → SoundSide (limit T Q mode) (sideOf mode p)
+pub side-sound : (T Q : ℕ) (mode : Mode) (p : Plain) → SoundTexts T Q p → SoundSide (limit T Q mode) (sideOf mode p)
 side-sound T Q Main p sound = record { text = sound .text; recall = sound .recall; half = sound .half }
 side-sound T Q Quoted p sound = record { text = sound .quotation; recall = sound .itsRecall; half = sound .itsHalf }
 
 -- A sound state with another sound side is sound. There is a quotation only in QUOTED.
-with-main-sound : (T Q : ℕ) (s : Side) (p : Plain) → SoundPlain T Q p → SoundSide T s → SoundPlain T Q (withSide Main s p)
+with-main-sound : (T Q : ℕ) (s : Side) (p : Plain) → SoundTexts T Q p → SoundSide T s → SoundTexts T Q (withSide Main s p)
 with-main-sound T Q s p sound side =
     record {
       text = side .text;
@@ -52,13 +52,15 @@ with-main-sound T Q s p sound side =
       itsRecall = sound .itsRecall;
       pattern = sound .pattern;
       replacement = sound .replacement;
+      held = sound .held;
       half = side .half;
       itsHalf = sound .itsHalf;
+      heldHalf = sound .heldHalf;
       mode = sound .mode;
     }
 
-with-side-sound : (T Q : ℕ) (mode : Mode) (s : Side) (p : Plain) → p .mode ≡ mode → SoundPlain T Q p
-    → SoundSide (limit T Q mode) s → SoundPlain T Q (withSide mode s p)
+with-side-sound : (T Q : ℕ) (mode : Mode) (s : Side) (p : Plain) → p .mode ≡ mode → SoundTexts T Q p
+    → SoundSide (limit T Q mode) s → SoundTexts T Q (withSide mode s p)
 with-side-sound T Q Main s p e sound side = with-main-sound T Q s p sound side
 with-side-sound T Q Quoted s p e sound side =
     record {
@@ -68,36 +70,49 @@ with-side-sound T Q Quoted s p e sound side =
       itsRecall = side .recall;
       pattern = sound .pattern;
       replacement = sound .replacement;
+      held = sound .held;
       half = sound .half;
       itsHalf = side .half;
+      heldHalf = sound .heldHalf;
       mode = ap (λ m. unquoted m (sizesOf s)) e;
     }
 
 -- Two edits of the mode's side, one after the other.
+abbrev sidesIn : Plain → Mode → Side → Side → Plain
+sidesIn p mode main quotation =
+    record {
+      main = main;
+      quoted = quotation;
+      pattern = p .pattern;
+      replacement = p .replacement;
+      mode = mode;
+      held = p .held;
+      mark = p .mark;
+    }
+
 pub on-side-twice : (edit next : Side → Did Side) (p : Plain) → onSide next (onSide edit p .state) ≡ onSide (λ s. next (edit s .state)) p
 unfolding onSide
-on-side-twice edit next p = go (p .mode) (p .main) (p .quoted) (p .pattern) (p .replacement)
+on-side-twice edit next p = go (p .mode) (p .main) (p .quoted)
   where
-    go : (mode : Mode) (main quotation : Side) (pattern : List ℕ) (replacement : Doc)
-        → let q : Plain = record { main = main; quoted = quotation; pattern = pattern; replacement = replacement; mode = mode } in
-        onSide next (onSide edit q .state) ≡ onSide (λ s. next (edit s .state)) q
-    go Main main quotation pattern replacement = refl
-    go Quoted main quotation pattern replacement = refl
+    go : (mode : Mode) (main quotation : Side)
+        → onSide next (onSide edit (sidesIn p mode main quotation) .state) ≡ onSide (λ s. next (edit s .state)) (sidesIn p mode main quotation)
+    go Main main quotation = refl
+    go Quoted main quotation = refl
 
 -- FULL's test: in a session it passes, and where it passes each text keeps to its limit.
-pub sound-fits : (T Q : ℕ) (p : Plain) → SoundPlain T Q p → fits T Q p ≡ true
+pub sound-fits : (T Q : ℕ) (p : Plain) → SoundTexts T Q p → fits T Q p ≡ true
 unfolding fits
 sound-fits T Q p sound =
     and-both (le-leb _ _ (content-fits T (p .main .text) (sound .text))) (le-leb _ _ (content-fits Q (p .quoted .text) (sound .quotation)))
 
-fits-side : (T Q : ℕ) (mode : Mode) (p : Plain) → fits T Q p ≡ true → length (content (sideOf mode p .text)) ≤ limit T Q mode
+pub fits-side : (T Q : ℕ) (mode : Mode) (p : Plain) → fits T Q p ≡ true → length (content (sideOf mode p .text)) ≤ limit T Q mode
 unfolding fits
 fits-side T Q Main p e = leb-true _ _ (and-left _ _ e)
 fits-side T Q Quoted p e = leb-true _ _ (and-right (leb (length (content (p .main .text))) T) _ e)
 
 -- An edit of the mode's side: it is enough that the edit keeps that side.
-pub on-side-sound : (T Q : ℕ) (edit : Side → Did Side) (p : Plain) → SoundPlain T Q p
-    → SoundSide (limit T Q (p .mode)) (edit (sideOf (p .mode) p) .state) → SoundPlain T Q (onSide edit p .state)
+pub on-side-sound : (T Q : ℕ) (edit : Side → Did Side) (p : Plain) → SoundTexts T Q p
+    → SoundSide (limit T Q (p .mode)) (edit (sideOf (p .mode) p) .state) → SoundTexts T Q (onSide edit p .state)
 unfolding onSide
 on-side-sound T Q edit p sound side = with-side-sound T Q (p .mode) (edit (sideOf (p .mode) p) .state) p refl sound side
 
@@ -109,18 +124,30 @@ on-side-fits T Q edit p room =
     rw (side-with (p .mode) side p) at (fits-side T Q (p .mode) (withSide (p .mode) side p) room)
 
 -- Moves and deletions keep a session: there is always room.
-pub function-sound : (T Q : ℕ) (action : Action) (way : Direction) (place : Place) (p : Plain) → SoundPlain T Q p
-    → SoundPlain T Q (onSide (function action way place) p .state)
+pub function-sound : (T Q : ℕ) (action : Action) (way : Direction) (place : Place) (p : Plain) → SoundTexts T Q p
+    → SoundTexts T Q (onSide (function action way place) p .state)
 unfolding function
 function-sound T Q action way place p sound =
     let s = sideOf (p .mode) p in
     on-side-sound T Q (function action way place) p sound
     (carried-sound (limit T Q (p .mode)) s (side-sound T Q (p .mode) p sound) action way (passageTo way (isAt place way) (s .text)))
 
--- A sound state without its quotation, with another pattern, replacement and mode.
-cleared-sound : (T Q : ℕ) (pattern : List ℕ) (replacement : Doc) (mode : Mode) (p : Plain) → SoundPlain T Q p
+-- A state without its quotation, with another pattern, replacement and mode; a sound one stays sound.
+abbrev without : Mode → List ℕ → Doc → Plain → Plain
+without mode pattern replacement p =
+    record {
+      main = p .main;
+      quoted = emptySide;
+      pattern = pattern;
+      replacement = replacement;
+      mode = mode;
+      held = p .held;
+      mark = p .mark;
+    }
+
+cleared-sound : (T Q : ℕ) (pattern : List ℕ) (replacement : Doc) (mode : Mode) (p : Plain) → SoundTexts T Q p
     → Holdable Q (alone pattern) → Holdable Q replacement
-    → SoundPlain T Q (record { main = p .main; quoted = emptySide; pattern = pattern; replacement = replacement; mode = mode })
+    → SoundTexts T Q (without mode pattern replacement p)
 cleared-sound T Q pattern replacement mode p sound pattern-held replacement-held =
     record {
       text = sound .text;
@@ -129,8 +156,10 @@ cleared-sound T Q pattern replacement mode p sound pattern-held replacement-held
       itsRecall = empty-holdable Q;
       pattern = pattern-held;
       replacement = replacement-held;
+      held = sound .held;
       half = sound .half;
       itsHalf = refl;
+      heldHalf = sound .heldHalf;
       mode = no-quotation mode;
     }
   where
@@ -138,12 +167,12 @@ cleared-sound T Q pattern replacement mode p sound pattern-held replacement-held
     no-quotation Main = refl
     no-quotation Quoted = refl
 
-pub quoted-sound : (T Q : ℕ) (p : Plain) → SoundPlain T Q p → SoundPlain T Q (quoted p .state)
+pub quoted-sound : (T Q : ℕ) (p : Plain) → SoundTexts T Q p → SoundTexts T Q (quoted p .state)
 unfolding quoted
 quoted-sound T Q p sound =
     cleared-sound T Q (p .pattern) (p .replacement) (otherMode (p .mode)) p sound (sound .pattern) (sound .replacement)
 
-pub with-pattern-sound : (T Q : ℕ) (mode : Mode) (p : Plain) → SoundPlain T Q p → SoundPlain T Q (withPattern mode p)
+pub with-pattern-sound : (T Q : ℕ) (mode : Mode) (p : Plain) → SoundTexts T Q p → SoundTexts T Q (withPattern mode p)
 unfolding withPattern
 with-pattern-sound T Q Main p sound = sound
 with-pattern-sound T Q Quoted p sound =
@@ -151,24 +180,24 @@ with-pattern-sound T Q Quoted p sound =
     (left-holdable Q (content (p .quoted .text)) (content-fits Q (p .quoted .text) (sound .quotation)) (sound .quotation .bytes))
     (sound .replacement)
 
-pub searched-sound : (T Q : ℕ) (way : Direction) (p : Plain) → SoundPlain T Q p → SoundPlain T Q (searched way p .state)
+pub searched-sound : (T Q : ℕ) (way : Direction) (p : Plain) → SoundTexts T Q p → SoundTexts T Q (searched way p .state)
 unfolding searched
 searched-sound T Q way p sound =
     with-main-sound T Q _ p sound
     (carried-sound T (p .main) (side-sound T Q Main p sound) Move way (passageTo way (matches (p .pattern)) (p .main .text)))
 
-pub found-sound : (T Q : ℕ) (way : Direction) (p : Plain) → SoundPlain T Q p → SoundPlain T Q (found way p .state)
+pub found-sound : (T Q : ℕ) (way : Direction) (p : Plain) → SoundTexts T Q p → SoundTexts T Q (found way p .state)
 unfolding found
 found-sound T Q way p sound = searched-sound T Q way (withPattern (p .mode) p) (with-pattern-sound T Q (p .mode) p sound)
 
-pub with-replacement-sound : (T Q : ℕ) (mode : Mode) (p : Plain) → SoundPlain T Q p → SoundPlain T Q (withReplacement mode p)
+pub with-replacement-sound : (T Q : ℕ) (mode : Mode) (p : Plain) → SoundTexts T Q p → SoundTexts T Q (withReplacement mode p)
 unfolding withReplacement
 with-replacement-sound T Q Main p sound = sound
 with-replacement-sound T Q Quoted p sound =
     cleared-sound T Q (p .pattern) (p .quoted .text) Main p sound (sound .pattern) (sound .quotation)
 
 -- The pattern that REPLACE gives to the recall text fits there, for it stood in the document.
-exchanged-sound : (T Q : ℕ) (p : Plain) → SoundPlain T Q p → matches (p .pattern) (p .main .text) ≡ true
+exchanged-sound : (T Q : ℕ) (p : Plain) → SoundTexts T Q p → matches (p .pattern) (p .main .text) ≡ true
     → length (content (exchanged p .text)) ≤ T → SoundSide T (exchanged p)
 unfolding exchanged
 exchanged-sound T Q p sound match fit =
@@ -180,8 +209,8 @@ exchanged-sound T Q p sound match fit =
       half = refl;
     }
 
-pub substituted-sound : (T Q : ℕ) (p : Plain) → SoundPlain T Q p → fits T Q (substituted p .state) ≡ true
-    → SoundPlain T Q (substituted p .state)
+pub substituted-sound : (T Q : ℕ) (p : Plain) → SoundTexts T Q p → fits T Q (substituted p .state) ≡ true
+    → SoundTexts T Q (substituted p .state)
 unfolding substituted
 substituted-sound T Q p sound room = go (matches (p .pattern) (p .main .text)) refl room
   where
@@ -189,7 +218,7 @@ substituted-sound T Q p sound room = go (matches (p .pattern) (p .main .text)) r
     answer match = cond match (reporting quiet (withSide Main (exchanged p) p)) (reporting rang p)
 
     go : (match : Bool) → matches (p .pattern) (p .main .text) ≡ match → fits T Q (answer match .state) ≡ true
-        → SoundPlain T Q (answer match .state)
+        → SoundTexts T Q (answer match .state)
     go true match room =
         with-main-sound T Q (exchanged p) p sound (exchanged-sound T Q p sound match (fits-side T Q Main _ room))
     go false match room = sound

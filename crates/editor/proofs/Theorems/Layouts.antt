@@ -11,14 +11,14 @@ use Rattle.editor.proofs.Laws.Encoding as law
 
 -- Decoding an encoded state gives it back.
 pub plain-of-encoded : (T Q : ℕ) (p : Plain) → SoundPlain T Q p → plainOf Q (lengthsOf p) (storesOf T Q p) ≡ p
-plain-of-encoded T Q p s = law.plain-of-encoded T Q p s
+plain-of-encoded T Q p s = law.plain-of-encoded T Q p (s .texts)
 
 -- The encoding of a sound plain state passes the session test, and the test of sizes for a T that the stores may have.
 pub encoded-ok : (T Q : ℕ) (p : Plain) → SoundPlain T Q p → editorOk Q (lengthsOf p) (storesOf T Q p) ≡ true
-encoded-ok T Q p s = law.encoded-ok T Q p s
+encoded-ok T Q p s = law.encoded-ok T Q p (s .texts) (s .mark)
 
 pub encoded-sized : (T Q : ℕ) (p : Plain) → 1 ≤ T → T ≤ 65536 → SoundPlain T Q p → sized Q (storesOf T Q p) ≡ true
-encoded-sized T Q p low high s = law.encoded-sized T Q p low high s
+encoded-sized T Q p low high s = law.encoded-sized T Q p low high (s .texts)
 
 -- Record and stores that pass the session test hold a sound plain state, and are its encoding.
 pub session-encoded : (Q : ℕ) (n : Lengths) (b : Stores) → sized Q b ≡ true → editorOk Q n b ≡ true → Encoded Q n b

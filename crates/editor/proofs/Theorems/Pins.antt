@@ -1,7 +1,7 @@
 -- The definitions of this layer give each example of its tables.
 use mathlib.Core.Path.{_≡_, refl}
 use mathlib.Core.Bool.{false}
-use mathlib.Core.List.{[]}
+use mathlib.Core.List.{[], _++_}
 use Prim.Native.Nat.{ℕ}
 use lib.ListN.{length}
 use Rattle.gap.specs.Rules.Sequence.{every, sameBytes, begins, part, zeros}
@@ -16,47 +16,66 @@ use Rattle.editor.specs.Words.{Lengths}
 use Rattle.editor.specs.Rules.Plain.{Plain, Did, refused, done}
 use Rattle.editor.specs.Rules.Passages.{withLines, passageTo}
 use Rattle.editor.specs.Rules.Places.{lineBeginning, lineEnding, word, documentEnd, isAt}
+use Rattle.editor.specs.Rules.Marks.{markThrough}
 use Rattle.editor.specs.Rules.Keys.{soundKey, inserted, carried, function, recalled, onSide, quoted, withPattern, searched, found}
-use Rattle.editor.specs.Rules.Keys.{withReplacement, exchanged, substituted, replaced, pressed, fits, bounded, key, keys}
+use Rattle.editor.specs.Rules.Keys.{withReplacement, exchanged, substituted, replaced, markedHere, cutTo, pasted, acted, changeOf, pressed}
+use Rattle.editor.specs.Rules.Keys.{fits, bounded, key, keys}
 use Rattle.editor.specs.Rules.Bytes.{Stores, quarter, sized, plainOf, lengthsOf, storesOf, editorOk, editedTo}
-use Rattle.editor.specs.Tables.KeyExamples.{states, statesAll, seeing, onPlain}
+use Rattle.editor.specs.Tables.KeyExamples.{unmarked, markAfter, states, statesAll, seeing, seenIn, onPlain}
 use Rattle.editor.specs.Tables.KeyPins.{placePins, editPins}
 use Rattle.editor.specs.Tables.QuotationPins.{quotationPins, searchPins, replacePins}
+use Rattle.editor.specs.Tables.MarkPins.{markPins, changePins}
+use Rattle.editor.specs.Tables.CutPins.{cutPins, pastePins}
 use Rattle.editor.specs.Tables.SessionPins.{layoutPins, sessionPins}
 
 pub places-pinned : broken onPlain placePins ≡ []
 unfolding sameBytes bytes move delete times nearest distance passed withLines passageTo newlines allOf broken markedAfter lineBeginning
-    lineEnding word documentEnd isAt soundKey carried function onSide pressed fits bounded key quarter states statesAll seeing onPlain
+    lineEnding word documentEnd isAt soundKey carried function onSide acted changeOf markThrough pressed fits bounded key quarter unmarked
+    markAfter states statesAll seeing seenIn onPlain
 places-pinned = refl
 
 pub edits-pinned : broken onPlain editPins ≡ []
 unfolding sameBytes bytes move delete times passed removed splice nearest distance withLines passageTo newlines allOf broken markedAfter
-    lineBeginning lineEnding word documentEnd isAt soundKey inserted carried function recalled onSide quoted pressed fits bounded key
-    quarter states statesAll seeing onPlain
+    lineBeginning lineEnding word documentEnd isAt soundKey inserted carried function recalled onSide quoted acted changeOf markThrough
+    pressed fits bounded key quarter unmarked markAfter states statesAll seeing seenIn onPlain
 edits-pinned = refl
 
 pub quotations-pinned : broken onPlain quotationPins ≡ []
 unfolding sameBytes bytes move delete times passed removed splice nearest distance withLines passageTo newlines allOf broken markedAfter
-    lineBeginning word isAt soundKey inserted carried function recalled onSide quoted pressed fits bounded key quarter states statesAll
-    seeing onPlain
+    lineBeginning word isAt soundKey inserted carried function recalled onSide quoted acted changeOf markThrough pressed fits bounded key
+    quarter unmarked markAfter states statesAll seeing seenIn onPlain
 quotations-pinned = refl
 
 pub searches-pinned : broken onPlain searchPins ≡ []
 unfolding sameBytes begins bytes move delete times passed removed splice nearest distance withLines passageTo newlines allOf broken
     markedAfter isAt soundKey inserted carried function onSide quoted withPattern searched found withReplacement exchanged substituted
-    replaced pressed fits bounded key quarter states statesAll seeing onPlain
+    replaced acted changeOf markThrough pressed fits bounded key quarter unmarked markAfter states statesAll seeing seenIn onPlain
 searches-pinned = refl
 
 pub replacements-pinned : broken onPlain replacePins ≡ []
 unfolding sameBytes begins bytes move delete times passed removed splice nearest distance withLines passageTo newlines allOf broken
     markedAfter isAt soundKey inserted carried function onSide quoted withPattern searched found withReplacement exchanged substituted
-    replaced pressed fits bounded key quarter states statesAll seeing onPlain
+    replaced acted changeOf markThrough pressed fits bounded key quarter unmarked markAfter states statesAll seeing seenIn onPlain
 replacements-pinned = refl
+
+pub marks-pinned : broken onPlain (markPins ++ (cutPins ++ pastePins)) ≡ []
+unfolding sameBytes begins bytes move delete times passed removed splice nearest distance withLines passageTo newlines allOf broken
+    markedAfter lineBeginning word documentEnd isAt soundKey inserted carried function recalled onSide quoted withPattern searched found
+    withReplacement exchanged substituted replaced markedHere cutTo pasted acted changeOf markThrough pressed fits bounded key quarter
+    unmarked markAfter states statesAll seeing seenIn onPlain
+marks-pinned = refl
+
+pub changes-pinned : broken itself changePins ≡ []
+unfolding sameBytes begins bytes move delete times passed removed splice nearest distance withLines passageTo newlines allOf broken
+    markedAfter lineBeginning word documentEnd isAt soundKey inserted carried function recalled onSide quoted withPattern searched found
+    withReplacement exchanged substituted replaced markedHere cutTo pasted acted changeOf markThrough pressed fits bounded key quarter
+    unmarked markAfter seeing seenIn
+changes-pinned = refl
 
 pub layouts-pinned : broken itself layoutPins ≡ []
 unfolding sameBytes part zeros bytes move times splice nearest distance passed withLines passageTo newlines gapped paired ungap unpair allOf
-    broken markedAfter storedAs isAt soundKey inserted carried function onSide quoted pressed fits bounded key keys quarter sized plainOf
-    lengthsOf storesOf
+    broken markedAfter storedAs isAt soundKey inserted carried function onSide quoted acted changeOf markThrough pressed fits bounded key
+    keys quarter sized plainOf lengthsOf storesOf
 layouts-pinned = refl
 
 pub sessions-pinned : broken itself sessionPins ≡ []

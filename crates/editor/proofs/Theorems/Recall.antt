@@ -3,42 +3,35 @@
 use mathlib.Core.Path.{_≡_, refl, sym, ap, subst, subst⁻¹, _∙_}
 use mathlib.Core.Logic.{_↔_}
 use mathlib.Core.Bool.{true, false≢true}
-use mathlib.Core.List.{[], _∷_, append-nil}
+use mathlib.Core.List.{[], _∷_}
 use Prim.Native.Nat.{ℕ, _≤_}
-use native.Mathlib.Nat.{sub-zero}
 use native.Mathlib.Omega.{arith}
-use lib.ListN.{length, take-append-drop}
-use lib.Seq.{take-length}
+use lib.ListN.{length}
 use Rattle.gap.specs.Rules.Sequence.{every}
-use Rattle.gap.specs.Rules.Doc.{Doc, empty, content, move, delete, times, passed, splice, removed}
+use Rattle.gap.specs.Rules.Doc.{Doc, content, move, delete, times, passed, splice, removed}
 use Rattle.gap.specs.Rules.Lines.{newlines}
 use Rattle.gap.specs.Rules.Nearest.{nearest, distance}
 use Rattle.gap.proofs.Laws.Tests.{clash}
-use Rattle.gap.proofs.Laws.Doc.{same-texts, deletions-left, deletions-right, insertions, content-moves}
-use Rattle.editor.specs.Words.{Direction, Left, Right, Passage, Reached, Nowhere, Action, Move, Delete, Place, Character, Mode, Main, Quoted}
+use Rattle.gap.proofs.Laws.Doc.{insertions}
+use Rattle.editor.specs.Words.{Direction, Left, Right, Passage, Reached, Nowhere, Action, Move, Delete, Place, Character, Mode, Main, Quoted, Marking}
 use Rattle.editor.specs.Words.{Function, Recall, Find}
 use Rattle.editor.specs.Rules.Refusals.{FULL}
 use Rattle.editor.specs.Rules.Places.{isAt}
 use Rattle.editor.specs.Rules.Passages.{withLines, passageTo}
 use Rattle.editor.specs.Rules.Plain.{Side, Plain, opening, quiet, rang, Did, reporting, within, refused, done}
 use Rattle.editor.specs.Rules.Keys.{soundKey, carried, function, recalled, sideOf, withSide, onSide, withPattern, matches, searched, found}
-use Rattle.editor.specs.Rules.Keys.{pressed, fits, bounded, key, after, keys, Unsound, Exceeds}
+use Rattle.editor.specs.Rules.Marks.{putting, taking, markThrough, markChanged}
+use Rattle.editor.specs.Rules.Keys.{withMark, ofDocument, changeOf, acted, pressed, fits, bounded, key, after, keys, Unsound, Exceeds}
 use Rattle.editor.specs.Rules.Bytes.{SoundPlain}
 use Rattle.editor.specs.Wording.Recalling.{withRecall, recallPutIn}
 use Rattle.editor.proofs.Laws.Outcomes.{accepted}
 use Rattle.editor.proofs.Laws.States.{side-with, same-document, on-side-twice, sound-fits}
+use Rattle.editor.proofs.Laws.MarkedStates.{fits-marked}
+use Rattle.editor.proofs.Laws.MarkedStates.{side-marked, on-side-mark, on-side-marked}
+use Rattle.editor.proofs.Laws.Changes.{put-back, moved-content}
+use Rattle.editor.proofs.Laws.Marks.{through-nothing}
 use Rattle.editor.proofs.Theorems.Refusals.{key-unsound, refused-full, done-otherwise}
 use Rattle.editor.proofs.Theorems.Sessions.{opening-sound, keys-keep}
-
--- What n deletions removed, put around the cursor again, gives the text back.
-put-back : (way : Direction) (n : ℕ) (d : Doc) → splice 0 0 (removed way n d) (times (delete way) n d) ≡ d
-unfolding removed passed splice
-put-back Left n d =
-    ap (λ e. splice 0 0 (removed Left n d) e) (deletions-left n d) ∙ insertions (removed Left n d) (splice n 0 empty d)
-    ∙ same-texts (rw (append-nil, take-append-drop)) refl
-put-back Right n d =
-    ap (λ e. splice 0 0 (removed Right n d) e) (deletions-right n d) ∙ insertions (removed Right n d) (splice 0 n empty d)
-    ∙ same-texts (simp (append-nil, sub-zero, take-length)) (take-append-drop n (d .r))
 
 -- ---- The bell
 
@@ -55,40 +48,73 @@ same-side : (mode : Mode) (p : Plain) → withSide mode (sideOf mode p) p ≡ p
 same-side Main p = refl
 same-side Quoted p = refl
 
+rings-stays : (action : Action) (way : Direction) (place : Place) (p : Plain) → onSide (function action way place) p .report .bell ≡ true
+    → onSide (function action way place) p .state ≡ p
+unfolding onSide function
+rings-stays action way place p rung =
+    let s = sideOf (p .mode) p in
+    ap (λ s. withSide (p .mode) s p) (carried-rings action way (passageTo way (isAt place way) (s .text)) s rung) ∙ same-side (p .mode) p
+
+-- It reports no steps, so that the mark goes through no change.
+rings-no-steps : (action : Action) (way : Direction) (passage : Passage) (s : Side) → carried action way passage s .report .bell ≡ true
+    → carried action way passage s .report .steps ≡ 0
+unfolding carried
+rings-no-steps Move way (Reached n lines) s bell = absurd (false≢true bell)
+rings-no-steps Move way Nowhere s bell = refl
+rings-no-steps Delete way (Reached n lines) s bell = absurd (false≢true bell)
+rings-no-steps Delete way Nowhere s bell = refl
+
+nothing-taken : (mode : Mode) (way : Direction) (d : Doc) (mark : Marking) → markChanged (ofDocument mode (taking way 0)) d mark ≡ mark
+nothing-taken Main Left d mark = through-nothing _ mark
+nothing-taken Main Right d mark = through-nothing _ mark
+nothing-taken Quoted way d mark = through-nothing _ mark
+
+rings-marked : (action : Action) (way : Direction) (place : Place) (p : Plain) → onSide (function action way place) p .report .bell ≡ true
+    → markChanged (changeOf (Function action way place) p (onSide (function action way place) p)) (p .main .text) (p .mark) ≡ p .mark
+unfolding changeOf onSide function
+rings-marked Move way place p rung = through-nothing _ (p .mark)
+rings-marked Delete way place p rung =
+    let s = sideOf (p .mode) p in
+    rw (rings-no-steps Delete way (passageTo way (isAt place way) (s .text)) s rung) (nothing-taken (p .mode) way (p .main .text) (p .mark))
+
 pub function-rings : (T Q : ℕ) (action : Action) (way : Direction) (place : Place) (p : Plain) (did : Did Plain)
     → key T Q (Function action way place) p ≡ done did → did .report .bell ≡ true → did .state ≡ p
-unfolding pressed onSide function
+unfolding pressed acted
 function-rings T Q action way place p did e bell =
     let (ok, room, same) = accepted T Q (Function action way place) p did .0 e in
-    let s = sideOf (p .mode) p in
+    let acted = onSide (function action way place) p in
+    let rung = ap (λ d. d .report .bell) same ∙ bell in
+    let stays = rings-stays action way place p rung in
     ap (λ d. d .state) (sym same)
-    ∙ (ap (λ s. withSide (p .mode) s p)
-    (carried-rings action way (passageTo way (isAt place way) (s .text)) s (ap (λ d. d .report .bell) same ∙ bell))
-    ∙ same-side (p .mode) p)
+    ∙ ((λ i. withMark (markChanged (changeOf (Function action way place) p acted) (p .main .text) (stays i .mark)) (stays i))
+    ∙ ap (λ mark. withMark mark p) (rings-marked action way place p rung))
 
 -- What RECALL does anyhow.
 pub recall-does : (p : Plain) → pressed Recall p ≡ reporting quiet (recallPutIn p)
-unfolding pressed onSide recalled
+unfolding pressed acted changeOf recalled onSide
 recall-does p =
     let s = sideOf (p .mode) p in
-    λ i. reporting quiet (withSide (p .mode) (record { text = insertions (s .recall) (s .text) i; recall = s .recall }) p)
+    let change = ofDocument (p .mode) (putting (p .main .recall)) in
+    λ i. reporting quiet
+    (withMark (markChanged change (p .main .text) (on-side-mark recalled p i))
+    (withSide (p .mode) (record { text = insertions (s .recall) (s .text) i; recall = s .recall }) p))
 
-pub recall-sound : ¬ Unsound Recall
+pub recall-sound : (mode : Mode) → ¬ Unsound mode Recall
 unfolding soundKey
-recall-sound bad = clash refl (key-unsound Recall .1 bad)
+recall-sound mode bad = clash refl (key-unsound mode Recall .1 bad)
 
 pub recall-refused : (T Q : ℕ) (p : Plain) → (key T Q Recall p ≡ refused FULL) ↔ Exceeds T Q (recallPutIn p)
 recall-refused T Q p =
     let so = ap (λ d. d .state) (recall-does p) in (
       λ e. subst (Exceeds T Q) so (refused-full T Q Recall p .0 e .1),
-      λ over. refused-full T Q Recall p .1 (recall-sound, subst⁻¹ (Exceeds T Q) so over),
+      λ over. refused-full T Q Recall p .1 (recall-sound (p .mode), subst⁻¹ (Exceeds T Q) so over),
     )
 
 pub recall-done : (T Q : ℕ) (p : Plain) → (key T Q Recall p ≡ done (reporting quiet (recallPutIn p))) ↔ (¬ Exceeds T Q (recallPutIn p))
 recall-done T Q p =
     let so = ap (λ d. d .state) (recall-does p) in (
       λ e. λ over. done-otherwise T Q Recall p .0 (e ∙ ap done (sym (recall-does p))) .1 (subst⁻¹ (Exceeds T Q) so over),
-      λ short. done-otherwise T Q Recall p .1 (recall-sound, λ over. short (subst (Exceeds T Q) so over)) ∙ ap done (recall-does p),
+      λ short. done-otherwise T Q Recall p .1 (recall-sound (p .mode), λ over. short (subst (Exceeds T Q) so over)) ∙ ap done (recall-does p),
     )
 
 -- ---- A deletion that found its place
@@ -124,20 +150,38 @@ recalled-state way place p some =
     (on-side-twice (function Delete way place) recalled p
     ∙ ap (λ d. within (λ s. withSide (p .mode) s p) d) (recall-after-deletion way place s some))
 
+-- RECALL after that, whatever mark there is: its own change moves the mark on.
+recalled-marked : (mark : Marking) (way : Direction) (place : Place) (p : Plain)
+    → let after = onSide (function Delete way place) p in
+    let q = withMark mark (after .state) in 1 ≤ after .report .steps
+    → pressed Recall q ≡ reporting quiet (withMark (recallPutIn q .mark) (withRecall (sideOf (p .mode) (after .state) .recall) p))
+unfolding pressed acted changeOf
+recalled-marked mark way place p some =
+    let q = withMark mark (onSide (function Delete way place) p .state) in
+    let change = ofDocument (q .mode) (putting (q .main .recall)) in
+    let back = on-side-marked recalled mark (onSide (function Delete way place) p .state) ∙ ap (within (withMark mark)) (recalled-state way place p some) in
+    λ i. within (withMark (markChanged change (q .main .text) (on-side-mark recalled q i))) (back i)
+
 module _ (T Q : ℕ) (way : Direction) (place : Place) (p : Plain) (did : Did Plain) (e : key T Q (Function Delete way place) p ≡ done did) where
   -- The same at the level of keys, in a session: where the deletion reported steps above 0, RECALL is not refused, and it leads back to the
-  -- text and cursor before the deletion. Only the recall text is another: that of the deletion.
+  -- text and cursor before the deletion. Only the recall text is another, that of the deletion, and the mark is where the two changes lead it.
   pub recall-restores : SoundPlain T Q p → 1 ≤ did .report .steps
-      → key T Q Recall (did .state) ≡ done (reporting quiet (withRecall (sideOf (p .mode) (did .state) .recall) p))
-  unfolding pressed soundKey
+      → key T Q Recall (did .state)
+      ≡ done (reporting quiet (withMark (recallPutIn (did .state) .mark) (withRecall (sideOf (p .mode) (did .state) .recall) p)))
+  unfolding pressed acted soundKey
   recall-restores sound some =
       let (ok, room, same) = accepted T Q (Function Delete way place) p did .0 e in
       let after = onSide (function Delete way place) p in
+      let mark = markChanged (changeOf (Function Delete way place) p after) (p .main .text) (after .state .mark) in
+      let q = withMark mark (after .state) in
       let recall = sideOf (p .mode) (after .state) .recall in
-      let back = recalled-state way place p (rw (← same) at some) in
-      rw (← same)
-      (accepted T Q Recall (after .state) (reporting quiet (withRecall recall p)) .1
-      (refl, ap (λ d. fits T Q (d .state)) back ∙ fits-with-recall T Q recall p ∙ sound-fits T Q p sound, back))
+      let back = recalled-marked mark way place p (rw (← same) at some) in
+      rw (← same, side-marked (p .mode) mark (after .state))
+      (accepted T Q Recall q (reporting quiet (withMark (recallPutIn q .mark) (withRecall recall p))) .1 (
+        refl,
+        ap (λ d. fits T Q (d .state)) back ∙ (fits-marked T Q _ (withRecall recall p) ∙ (fits-with-recall T Q recall p ∙ sound-fits T Q p (sound .texts))),
+        back,
+      ))
 
   -- With the bell it does what it would have done before the deletion: the older recall text goes in, or it is refused as FULL, which is
   -- exactly when the finished text would not fit.
@@ -155,36 +199,32 @@ taken = keys 1 1 (Function Delete Right Character ∷ []) (opening (97 ∷ []))
 
 pub restores-not-always : ¬ ((T Q : ℕ) (way : Direction) (place : Place) (p : Plain) (did : Did Plain) → SoundPlain T Q p
     → key T Q (Function Delete way place) p ≡ done did
-    → key T Q Recall (did .state) ≡ done (reporting quiet (withRecall (sideOf (p .mode) (did .state) .recall) p)))
+    → key T Q Recall (did .state)
+    ≡ done (reporting quiet (withMark (recallPutIn (did .state) .mark) (withRecall (sideOf (p .mode) (did .state) .recall) p))))
 unfolding every move delete times passed removed splice nearest distance newlines withLines passageTo isAt soundKey carried function
-    recalled onSide pressed fits bounded key keys
+    recalled onSide acted changeOf markThrough pressed fits bounded key keys
 restores-not-always claim =
     let sound = keys-keep 1 1 (Function Delete Right Character ∷ []) (opening (97 ∷ [])) (opening-sound 1 1 1 (97 ∷ []) (omega arith) refl) in
     omega (arith, ap (λ o. length (content (after taken o .main .text))) (claim 1 1 Left Character taken (reporting rang taken) sound refl))
-
--- A move of one side keeps its content, wherever its search ends.
-moved-keeps : (way : Direction) (passage : Passage) (s : Side) → content (carried Move way passage s .state .text) ≡ content (s .text)
-unfolding carried
-moved-keeps way (Reached n lines) s = content-moves way n (s .text)
-moved-keeps way Nowhere s = refl
 
 -- Moves keep the content of the text that they act on.
 pub move-keeps : (T Q : ℕ) (way : Direction) (place : Place) (p : Plain) (did : Did Plain)
     → key T Q (Function Move way place) p ≡ done did
     → content (sideOf (p .mode) (did .state) .text) ≡ content (sideOf (p .mode) p .text)
-unfolding pressed onSide function
+unfolding pressed acted onSide function
 move-keeps T Q way place p did e =
     let (ok, room, same) = accepted T Q (Function Move way place) p did .0 e in
     let s = sideOf (p .mode) p in
-    rw (← same, side-with (p .mode) (function Move way place s .state) p) (moved-keeps way (passageTo way (isAt place way) (s .text)) s)
+    rw (← same, side-marked (p .mode) _ (withSide (p .mode) (function Move way place s .state) p), side-with (p .mode) (function Move way place s .state) p)
+    (moved-content way (passageTo way (isAt place way) (s .text)) s)
 
 -- Searches keep that of the document.
 pub find-keeps : (T Q : ℕ) (way : Direction) (p : Plain) (did : Did Plain) → key T Q (Find way) p ≡ done did
     → content (did .state .main .text) ≡ content (p .main .text)
-unfolding pressed found searched
+unfolding pressed acted found searched
 find-keeps T Q way p did e =
     let (ok, room, same) = accepted T Q (Find way) p did .0 e in
     let q = withPattern (p .mode) p in
     rw (← same)
-    (moved-keeps way (passageTo way (matches (q .pattern)) (q .main .text)) (q .main)
+    (moved-content way (passageTo way (matches (q .pattern)) (q .main .text)) (q .main)
     ∙ ap (λ s. content (s .text)) (same-document (p .mode) p))

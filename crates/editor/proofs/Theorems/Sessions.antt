@@ -19,15 +19,20 @@ pub opening-sound : (T Q n : ℕ) (text : List ℕ) → n ≤ T → every allowe
     → SoundPlain T Q (opening (take n text))
 opening-sound T Q n text fits bytes =
     record {
-      text = right-holdable T (take n text) (simp length-take (omega arith)) bytes;
-      recall = empty-holdable T;
-      quotation = empty-holdable Q;
-      itsRecall = empty-holdable Q;
-      pattern = empty-holdable Q;
-      replacement = empty-holdable Q;
-      half = refl;
-      itsHalf = refl;
-      mode = refl;
+      texts = record {
+        text = right-holdable T (take n text) (simp length-take (omega arith)) bytes;
+        recall = empty-holdable T;
+        quotation = empty-holdable Q;
+        itsRecall = empty-holdable Q;
+        pattern = empty-holdable Q;
+        replacement = empty-holdable Q;
+        held = empty-holdable T;
+        half = refl;
+        itsHalf = refl;
+        heldHalf = refl;
+        mode = refl;
+      };
+      mark = refl;
     }
 
 -- Every accepted key leads from a session to a session.

@@ -1,9 +1,9 @@
 -- The keys on the plain state. (01, plain editor, from the function keys on.)
 use Rattle.gap.specs.Rules.Checks.{Check, check, unless}
-use Rattle.editor.specs.Words.{List, [], _∷_, Bool, true, false, _&&_, cond, ℕ, leb, length}
+use Rattle.editor.specs.Words.{List, [], _∷_, Bool, true, false, _&&_, cond, ℕ, leb, length, Marking, Unmarked, At}
 use Rattle.editor.specs.Words.{Direction, Left, Right, Passage, Reached, Nowhere, Action, Move, Delete, Mode, Main, Quoted}
 use Rattle.editor.specs.Words.{Place, Character, Word, LineBeginning, LineEnding, Document}
-use Rattle.editor.specs.Words.{Key, Insert, Function, Recall, Quote, Find, Replace}
+use Rattle.editor.specs.Words.{Key, Insert, Function, Recall, Quote, Find, Replace, Mark, Cut, Paste}
 use mathlib.Core.Path.{_≡_}
 use mathlib.Core.Logic.{_⊎_}
 use Prim.Native.Nat.{_<_}
@@ -12,7 +12,8 @@ use Rattle.gap.specs.Rules.Doc.{Doc, content, move, delete, times, removed, spl
 use Rattle.gap.specs.Rules.Layout.{allowed}
 use Rattle.editor.specs.Rules.Places.{isAt}
 use Rattle.editor.specs.Rules.Passages.{passageTo}
-use Rattle.editor.specs.Rules.Plain.{Side, emptySide, Plain, quiet, rang, went, Did, reporting, within, Outcome, refused, done}
+use Rattle.editor.specs.Rules.Marks.{Change, unchanged, putting, taking, markChanged, wayTo, farTo}
+use Rattle.editor.specs.Rules.Plain.{Side, emptySide, Plain, holding, quiet, rang, went, Did, reporting, within, Outcome, refused, done}
 use Rattle.editor.specs.Rules.Refusals.{KEY, FULL}
 
 -- Of the twenty function keys two are never carried out. (01, refusals: KEY.)
@@ -29,14 +30,22 @@ soundFunction Delete Right LineBeginning = false
 soundFunction Delete Right LineEnding = true
 soundFunction Delete Right Document = true
 
--- An insert must be of an allowed byte; all other keys are sound. (01, refusals: KEY.)
-unfoldable pub soundKey : Key → Bool
-soundKey (Insert b) = allowed b
-soundKey (Function action way place) = soundFunction action way place
-soundKey Recall = true
-soundKey Quote = true
-soundKey (Find way) = true
-soundKey Replace = true
+-- MARK, CUT and PASTE are for the document alone. (02, M-101: KEY for these three in QUOTED.)
+abbrev pub isMain : Mode → Bool
+isMain Main = true
+isMain Quoted = false
+
+-- An insert must be of an allowed byte; all other keys of 01 are sound. (01, refusals: KEY.)
+unfoldable pub soundKey : Mode → Key → Bool
+soundKey mode (Insert b) = allowed b
+soundKey mode (Function action way place) = soundFunction action way place
+soundKey mode Recall = true
+soundKey mode Quote = true
+soundKey mode (Find way) = true
+soundKey mode Replace = true
+soundKey mode Mark = isMain mode
+soundKey mode Cut = isMain mode
+soundKey mode Paste = isMain mode
 
 -- ---- Keys on one side
 
@@ -67,8 +76,26 @@ sideOf Main p = p .main
 sideOf Quoted p = p .quoted
 
 abbrev pub withSide : Mode → Side → Plain → Plain
-withSide Main s p = record { main = s; quoted = p .quoted; pattern = p .pattern; replacement = p .replacement; mode = p .mode }
-withSide Quoted s p = record { main = p .main; quoted = s; pattern = p .pattern; replacement = p .replacement; mode = p .mode }
+withSide Main s p =
+    record {
+      main = s;
+      quoted = p .quoted;
+      pattern = p .pattern;
+      replacement = p .replacement;
+      mode = p .mode;
+      held = p .held;
+      mark = p .mark;
+    }
+withSide Quoted s p =
+    record {
+      main = p .main;
+      quoted = s;
+      pattern = p .pattern;
+      replacement = p .replacement;
+      mode = p .mode;
+      held = p .held;
+      mark = p .mark;
+    }
 
 unfoldable pub onSide : (Side → Did Side) → Plain → Did Plain
 onSide edit p = within (λ s. withSide (p .mode) s p) (edit (sideOf (p .mode) p))
@@ -89,6 +116,8 @@ quoted p =
       pattern = p .pattern;
       replacement = p .replacement;
       mode = otherMode (p .mode);
+      held = p .held;
+      mark = p .mark;
     })
 
 -- A quotation that ends in FIND or UPFIND becomes the pattern, wherever its cursor is; then it is cleared and the mode is MAIN.
@@ -102,6 +131,8 @@ withPattern Quoted p =
       pattern = content (p .quoted .text);
       replacement = p .replacement;
       mode = Main;
+      held = p .held;
+      mark = p .mark;
     }
 
 -- Where the pattern lies right behind the cursor.
@@ -126,6 +157,8 @@ withReplacement Quoted p =
       pattern = p .pattern;
       replacement = p .quoted .text;
       mode = Main;
+      held = p .held;
+      mark = p .mark;
     }
 
 -- At a match the pattern is exchanged for the replacement and becomes the recall text, to the right. Elsewhere the bell, and the
@@ -143,16 +176,96 @@ substituted p = cond (matches (p .pattern) (p .main .text)) (reporting quiet (wi
 unfoldable pub replaced : Plain → Did Plain
 replaced p = substituted (withReplacement (p .mode) p)
 
+-- ---- Keys about the mark
+
+abbrev pub withMark : Marking → Plain → Plain
+withMark mark p =
+    record {
+      main = p .main;
+      quoted = p .quoted;
+      pattern = p .pattern;
+      replacement = p .replacement;
+      mode = p .mode;
+      held = p .held;
+      mark = mark;
+    }
+
+-- MARK sets the mark at the cursor. (02, M-101.)
+unfoldable pub markedHere : Plain → Did Plain
+markedHere p = reporting quiet (withMark (At (length (p .main .text .l))) p)
+
+-- The document with another text and another held pair; the recall text stays.
+abbrev pub withHolding : Side → Plain → Plain
+withHolding s p =
+    record {
+      main = record { text = s .text; recall = p .main .recall };
+      quoted = p .quoted;
+      pattern = p .pattern;
+      replacement = p .replacement;
+      mode = p .mode;
+      held = s .recall;
+      mark = p .mark;
+    }
+
+-- CUT is the deletion of the bytes between cursor and mark, held in the place of recall text, and drops the mark. It reports their number and no
+-- lines. Without a mark there is the bell, and nothing else. (02, M-101. DECISIONS C11, C12, C16.)
+unfoldable pub cutTo : Marking → Plain → Did Plain
+cutTo Unmarked p = reporting rang p
+cutTo (At m) p =
+    let l = length (p .main .text .l) in
+    within (λ s. withMark Unmarked (withHolding s p)) (carried Delete (wayTo m l) (Reached (farTo m l) 0) (holding p))
+
+abbrev pub cut : Plain → Did Plain
+cut p = cutTo (p .mark) p
+
+-- PASTE puts the held pair in around the cursor, as RECALL does with the recall pair; it stays held. (02, M-101. DECISIONS C13.)
+unfoldable pub pasted : Plain → Did Plain
+pasted p = within (λ s. withHolding s p) (recalled (holding p))
+
 -- ---- A key
 
--- What each key does where there is room for it.
+-- What each key does where there is room for it, but for the mark.
+unfoldable pub acted : Key → Plain → Did Plain
+acted (Insert b) p = onSide (inserted b) p
+acted (Function action way place) p = onSide (function action way place) p
+acted Recall p = onSide recalled p
+acted Quote p = quoted p
+acted (Find way) p = found way p
+acted Replace p = replaced p
+acted Mark p = markedHere p
+acted Cut p = cut p
+acted Paste p = pasted p
+
+-- What each key changes of the document: an edit in QUOTED nothing, a move or a search nothing, a deletion the bytes that it reports, REPLACE
+-- without a match nothing. That the text behind a key is this change of the text before it: text-changed in proofs/Theorems/Marks.
+abbrev pub ofDocument : Mode → Change → Change
+ofDocument Main c = c
+ofDocument Quoted c = unchanged
+
+abbrev pub cutting : Marking → ℕ → Change
+cutting Unmarked l = unchanged
+cutting (At m) l = taking (wayTo m l) (farTo m l)
+
+unfoldable pub changeOf : Key → Plain → Did Plain → Change
+changeOf (Insert b) p did = ofDocument (p .mode) (putting (record { l = b ∷ []; r = [] }))
+changeOf (Function Move way place) p did = unchanged
+changeOf (Function Delete way place) p did = ofDocument (p .mode) (taking way (did .report .steps))
+changeOf Recall p did = ofDocument (p .mode) (putting (p .main .recall))
+changeOf Quote p did = unchanged
+changeOf (Find way) p did = unchanged
+changeOf Replace p did =
+    cond (did .report .bell) unchanged
+    (record { before = 0; behind = length (did .state .pattern); put = did .state .replacement })
+changeOf Mark p did = unchanged
+changeOf Cut p did = cutting (p .mark) (length (p .main .text .l))
+changeOf Paste p did = putting (p .held)
+
+-- The mark goes through that change. (02, M-101: one rule for every key.)
+abbrev pub followed : Key → Plain → Did Plain → Did Plain
+followed k p did = within (withMark (markChanged (changeOf k p did) (p .main .text) (did .state .mark))) did
+
 unfoldable pub pressed : Key → Plain → Did Plain
-pressed (Insert b) p = onSide (inserted b) p
-pressed (Function action way place) p = onSide (function action way place) p
-pressed Recall p = onSide recalled p
-pressed Quote p = quoted p
-pressed (Find way) p = found way p
-pressed Replace p = replaced p
+pressed k p = followed k p (acted k p)
 
 -- Room: the document has T bytes, the quotation Q. It is asked of the finished texts, so what a key gives back counts.
 -- (01, refusals: FULL. DECISIONS B12, B15.)
@@ -168,7 +281,7 @@ bounded T Q did = unless (finishedChecks T Q (did .state)) refused (done did)
 
 -- KEY before anything of the key itself. (01, refusals: order.)
 unfoldable pub key : ℕ → ℕ → Key → Plain → Outcome
-key T Q k p = unless (check KEY (soundKey k) ∷ []) refused (bounded T Q (pressed k p))
+key T Q k p = unless (check KEY (soundKey (p .mode) k) ∷ []) refused (bounded T Q (pressed k p))
 
 -- A list of keys; a refused one leaves the state as it was.
 abbrev pub after : Plain → Outcome → Plain
@@ -181,11 +294,15 @@ keys T Q (k ∷ ks) p = keys T Q ks (after p (key T Q k p))
 
 -- ---- The two refusals in words
 
--- 01, KEY: an insert of a byte that is not allowed, a deletion left to a line ending, a deletion right to a line beginning.
-pub data Unsound : Key → Type 0 where
-  notAllowed : {b : ℕ} → allowed b ≡ false → Unsound (Insert b)
-  leftToEnding : Unsound (Function Delete Left LineEnding)
-  rightToBeginning : Unsound (Function Delete Right LineBeginning)
+-- 01, KEY: an insert of a byte that is not allowed, a deletion left to a line ending, a deletion right to a line beginning. 02, M-101: MARK, CUT
+-- and PASTE in QUOTED.
+pub data Unsound : Mode → Key → Type 0 where
+  notAllowed : {mode : Mode} {b : ℕ} → allowed b ≡ false → Unsound mode (Insert b)
+  leftToEnding : {mode : Mode} → Unsound mode (Function Delete Left LineEnding)
+  rightToBeginning : {mode : Mode} → Unsound mode (Function Delete Right LineBeginning)
+  markInQuoted : Unsound Quoted Mark
+  cutInQuoted : Unsound Quoted Cut
+  pasteInQuoted : Unsound Quoted Paste
 
 -- 01, FULL: the finished document would exceed T, or the finished quotation Q.
 abbrev pub Exceeds : ℕ → ℕ → Plain → Type 0

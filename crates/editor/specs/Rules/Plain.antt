@@ -1,5 +1,5 @@
 -- The editor's state without bytes, and what a key reports.
-use Rattle.editor.specs.Words.{List, [], true, false, ℕ, Mode, Main, Report}
+use Rattle.editor.specs.Words.{List, [], true, false, ℕ, Mode, Main, Marking, Unmarked, Report}
 use Rattle.gap.specs.Rules.Doc.{Doc, empty}
 
 -- A text and what its last deletion took: the document has such a side, and so has the quotation.
@@ -10,13 +10,19 @@ pub record Side : Type 0 where
 abbrev pub emptySide : Side
 emptySide = record { text = empty; recall = empty }
 
--- Everything that a session holds but for the window. (01, what the core holds.)
+-- Everything that a session holds but for the window; `held` is what CUT took. (01, what the core holds. 02, M-101.)
 pub record Plain : Type 0 where
   pub main : Side
   pub quoted : Side
   pub pattern : List ℕ
   pub replacement : Doc
   pub mode : Mode
+  pub held : Doc
+  pub mark : Marking
+
+-- The document with the held pair in the place of its recall text.
+abbrev pub holding : Plain → Side
+holding p = record { text = p .main .text; recall = p .held }
 
 -- A text newly opened: all of it lies right of the cursor, and there is nothing else. (01, opening.)
 abbrev pub opening : List ℕ → Plain
@@ -27,6 +33,8 @@ opening text =
       pattern = [];
       replacement = empty;
       mode = Main;
+      held = empty;
+      mark = Unmarked;
     }
 
 -- The three ways to report: nothing to say, nothing found, or n steps gone over so many newlines. (01, plain editor: steps, bell. 02, M-104:

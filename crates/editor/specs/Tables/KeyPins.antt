@@ -1,5 +1,5 @@
 -- What document 01 says of insertions, places, moves, deletions and RECALL, each sentence with its examples.
-use Rattle.editor.specs.Words.{List, [], _∷_, _++_, Character, Word, LineBeginning, LineEnding, Document, Insert, Recall, Quote}
+use Rattle.editor.specs.Words.{List, [], _∷_, Character, Word, LineBeginning, LineEnding, Document, Insert, Recall, Quote}
 use Rattle.gap.specs.Tables.Sentence.{Sentence, sentence}
 use Rattle.editor.specs.Tables.KeyExamples.{KeyExample, Refused, Goes, Crosses, Rings, Text, Recalls, example, exampleIn}
 use Rattle.editor.specs.Tables.KeyExamples.{moveLeft, moveRight, deleteLeft, deleteRight, typed}

@@ -2,7 +2,7 @@
 use Rattle.editor.specs.Words.{List, [], _∷_, _++_, Left, Right, Character, Word, Insert, Recall, Quote, Find, Replace, Main, Quoted}
 use Rattle.gap.specs.Tables.Sentence.{Sentence, sentence}
 use Rattle.editor.specs.Tables.KeyExamples.{KeyExample, Refused, Goes, Rings, Text, Recalls, Quotation, ItsRecalls, Pattern, Replacement, In}
-use Rattle.editor.specs.Tables.KeyExamples.{example, exampleIn, moveLeft, deleteLeft, deleteRight, typed, quoting}
+use Rattle.editor.specs.Tables.KeyExamples.{example, exampleIn, moveLeft, deleteLeft, deleteRight, quoting}
 
 -- ---- The quotation
 

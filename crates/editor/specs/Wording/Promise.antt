@@ -79,27 +79,44 @@ editing (edits.Insert b) s = inserted b s
 editing (edits.Function action way place) s = function action way place s
 editing edits.Recall s = recalled s
 
--- ---- All three stores
+-- ---- All four stores
 
 -- Stores as tabled that hold a session's part.
 pub record Sound (Q : ℕ) (n : Lengths) (b : Stores) : Type 0 where
   pub tabled : sized Q b ≡ true
   pub ok : editorOk Q n b ≡ true
 
-abbrev pub stores : List ℕ → List ℕ → List ℕ → Stores
-stores text recall side = record { text = text; recall = recall; side = side }
+abbrev pub stores : List ℕ → List ℕ → List ℕ → List ℕ → Stores
+stores text recall held side = record { text = text; recall = recall; held = held; side = side }
 
--- A function on the three stores does what the plain editor says of a text store of T bytes: its reply and all three stores are
+-- A function on the four stores does what the plain editor says of a text store of T bytes: its reply and all four stores are
 -- determined.
 abbrev pub Edits : EditorReply → Lengths → (ℕ → Plain → Outcome) → Stores → Stores → Type 0
 Edits r n outcome b then =
     record { reply = r; stores = then } ≡ editedTo quarter n b (outcome (length (b .text)) (plainOf quarter n b))
 
--- One that is lent text and side store alone does the same, whatever the recall store holds: that stays.
+-- One that is not lent the held text's store does the same, whatever that holds: it stays. What it asks is asked with some held text.
+abbrev pub SoundUnheld : Lengths → (text recall side : List ℕ) → Type 0
+SoundUnheld n text recall side = (held : List ℕ) × Sound quarter n (stores text recall held side)
+
+abbrev pub EditsUnheld : EditorReply → Lengths → (ℕ → Plain → Outcome) → (text recall side textThen recallThen sideThen : List ℕ) → Type 0
+EditsUnheld r n outcome text recall side textThen recallThen sideThen =
+    (held : List ℕ) → Sound quarter n (stores text recall held side)
+    → Edits r n outcome (stores text recall held side) (stores textThen recallThen held sideThen)
+
+-- One that is lent no store at all.
+abbrev pub EditsAny : EditorReply → Lengths → (ℕ → Plain → Outcome) → Type 0
+EditsAny r n outcome = (b : Stores) → Sound quarter n b → Edits r n outcome b b
+
+-- One that is lent text and held text alone.
+abbrev pub EditsHeld : EditorReply → Lengths → (ℕ → Plain → Outcome) → (text held textThen heldThen : List ℕ) → Type 0
+EditsHeld r n outcome text held textThen heldThen =
+    (recall side : List ℕ) → Sound quarter n (stores text recall held side)
+    → Edits r n outcome (stores text recall held side) (stores textThen recall heldThen side)
+
+-- One that is lent text and side store alone.
 abbrev pub EditsTexts : EditorReply → Lengths → (ℕ → Plain → Outcome) → (text side textThen sideThen : List ℕ) → Type 0
-EditsTexts r n outcome text side textThen sideThen =
-    (recall : List ℕ) → Sound quarter n (stores text recall side)
-    → Edits r n outcome (stores text recall side) (stores textThen recall sideThen)
+EditsTexts r n outcome text side textThen sideThen = (recall : List ℕ) → EditsUnheld r n outcome text recall side textThen recall sideThen
 
 -- And one that is lent the side store alone.
 abbrev pub EditsQuotation : EditorReply → Lengths → (ℕ → Plain → Outcome) → (side sideThen : List ℕ) → Type 0
@@ -115,22 +132,75 @@ pub record Opens (m : Lengths) (n : ℕ) (b then : Stores) : Type 0 where
 -- The lengths without a quotation, in another mode; and once the quotation, if there is one, has become the pattern or the
 -- replacement.
 abbrev pub cleared : Mode → Lengths → Lengths
-cleared mode n = record { main = n .main; quoted = noSizes; xl = n .xl; xr = n .xr; pl = n .pl; mode = mode }
+cleared mode n =
+    record {
+      main = n .main;
+      quoted = noSizes;
+      xl = n .xl;
+      xr = n .xr;
+      pl = n .pl;
+      mode = mode;
+      hl = n .hl;
+      hr = n .hr;
+      mark = n .mark;
+    }
 
 abbrev pub patternTaken : Mode → Lengths → Lengths
 patternTaken Main n = n
 patternTaken Quoted n =
-    record { main = n .main; quoted = noSizes; xl = n .xl; xr = n .xr; pl = n .quoted .l + n .quoted .r; mode = Main }
+    record {
+      main = n .main;
+      quoted = noSizes;
+      xl = n .xl;
+      xr = n .xr;
+      pl = n .quoted .l + n .quoted .r;
+      mode = Main;
+      hl = n .hl;
+      hr = n .hr;
+      mark = n .mark;
+    }
 
 abbrev pub replacementTaken : Mode → Lengths → Lengths
 replacementTaken Main n = n
 replacementTaken Quoted n =
-    record { main = n .main; quoted = noSizes; xl = n .quoted .l; xr = n .quoted .r; pl = n .pl; mode = Main }
+    record {
+      main = n .main;
+      quoted = noSizes;
+      xl = n .quoted .l;
+      xr = n .quoted .r;
+      pl = n .pl;
+      mode = Main;
+      hl = n .hl;
+      hr = n .hr;
+      mark = n .mark;
+    }
 
 -- What a key on a side makes of the lengths: refused as full, or its sizes put in.
 abbrev pub sizedIn : Mode → Sizes → Lengths → Lengths
-sizedIn Main m n = record { main = m; quoted = n .quoted; xl = n .xl; xr = n .xr; pl = n .pl; mode = n .mode }
-sizedIn Quoted m n = record { main = n .main; quoted = m; xl = n .xl; xr = n .xr; pl = n .pl; mode = n .mode }
+sizedIn Main m n =
+    record {
+      main = m;
+      quoted = n .quoted;
+      xl = n .xl;
+      xr = n .xr;
+      pl = n .pl;
+      mode = n .mode;
+      hl = n .hl;
+      hr = n .hr;
+      mark = n .mark;
+    }
+sizedIn Quoted m n =
+    record {
+      main = n .main;
+      quoted = m;
+      xl = n .xl;
+      xr = n .xr;
+      pl = n .pl;
+      mode = n .mode;
+      hl = n .hl;
+      hr = n .hr;
+      mark = n .mark;
+    }
 
 abbrev pub replyOf : Mode → Lengths → SideReply → EditorReply
 replyOf mode n t =
@@ -156,6 +226,10 @@ handed Q Quoted n at side =
 pub record Substitutes (here : Bool) (T : ℕ) (p : Plain) : Type 0 where
   pub known : here ≡ matches (p .pattern) (p .main .text)
   pub room : fits T quarter (substituted p .state) ≡ true
+
+abbrev pub SubstitutesUnheld : Bool → Lengths → (text recall side : List ℕ) → Type 0
+SubstitutesUnheld here n text recall side =
+    (held : List ℕ) × Sound quarter n (stores text recall held side) × Substitutes here (length text) (plainOf quarter n (stores text recall held side))
 
 -- The distance over all of a text of n bytes.
 abbrev pub wholeOf : ℕ → Search

@@ -2,7 +2,8 @@
 use Rattle.editor.specs.Words.{_++_}
 use Rattle.gap.specs.Rules.Doc.{Doc}
 use Rattle.editor.specs.Rules.Plain.{Plain}
-use Rattle.editor.specs.Rules.Keys.{sideOf, withSide}
+use Rattle.editor.specs.Rules.Marks.{putting, markChanged}
+use Rattle.editor.specs.Rules.Keys.{sideOf, withSide, withMark, ofDocument}
 
 abbrev pub recallOf : Plain → Doc
 recallOf p = sideOf (p .mode) p .recall
@@ -12,8 +13,8 @@ abbrev pub withRecall : Doc → Plain → Plain
 withRecall recall p = withSide (p .mode) (record { text = sideOf (p .mode) p .text; recall = recall }) p
 
 -- The state with its recall text (x, y) put in: the text is (l then x, y then r).
-abbrev pub recallPutIn : Plain → Plain
-recallPutIn p =
+abbrev pub recallIn : Plain → Plain
+recallIn p =
     let side = sideOf (p .mode) p in
     withSide (p .mode)
     (record {
@@ -21,3 +22,8 @@ recallPutIn p =
       recall = side .recall;
     })
     p
+
+-- In the document the mark goes through that. (02, M-101.)
+abbrev pub recallPutIn : Plain → Plain
+recallPutIn p =
+    withMark (markChanged (ofDocument (p .mode) (putting (p .main .recall))) (p .main .text) (p .mark)) (recallIn p)

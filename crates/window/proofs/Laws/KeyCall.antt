@@ -22,6 +22,7 @@ use Rattle.gap.proofs.Laws.Lines.{newlines-append, newlines-fit, since-fits}
 use Rattle.editor.specs.Rules.Keys.{key}
 use Rattle.editor.specs.Rules.Bytes.{Stores, quarter, quarterOf, sized, plainOf, lengthsOf, storesOf, editorOk, editedTo}
 use Rattle.editor.specs.Wording.Promise.{Sound, stores}
+use Rattle.editor.specs.Wording.Marks.{cuts}
 use Rattle.editor.proofs.Laws.Fitting.{fitting}
 use Rattle.window.specs.Words.{Lengths, Frame, Session, Key, Mode, Main, Quoted, Report}
 use Rattle.window.specs.declared.SessionTest.{SessionTest}
@@ -102,10 +103,10 @@ product-small h w e =
 
 -- ---- Texts, canvas and offsets
 
-module _ (n : Lengths) (t c s : List ℕ) (sound : Sound quarter n (stores t c s)) where
+module _ (n : Lengths) (t c h s : List ℕ) (sound : Sound quarter n (stores t c h s)) where
   pub texts-held : Texts n t s
   texts-held =
-      let fits = fitting quarter n (stores t c s) sound in
+      let fits = fitting quarter n (stores t c h s) sound in
       record { document = fits .document; long = fits .high; quotation = fits .quotation; quarters = fits .side }
 
 left-short : (m : Mode) (d q : Doc) → length (virtualIn m d q .l) ≤ length (d .l) + (2 + length (q .l))
@@ -184,15 +185,15 @@ module _ (f : Frame) (n : Lengths) (t s scr : List ℕ) (held : Texts n t s) (fr
           short = omega (arith, held .long);
         }
 
-    -- The reply is what the definition shows, whatever the recall store holds.
+    -- The reply is what the definition shows, whatever the stores of recall text and held text hold.
     pub shows-so : (report : Report) (rows : Rows) (new : List ℕ) → Refreshed g (virtualHeld n t s) scr rows new
-        → (c : List ℕ) → Sound quarter n (stores t c s)
-        → shownAs report (rows .first) (rows .last) spot g n new (stores t c s)
-        ≡ shown f (lent t c s scr) (record { state = plainOf quarter n (stores t c s); report = report })
+        → (c h : List ℕ) → Sound quarter n (stores t c h s)
+        → shownAs report (rows .first) (rows .last) spot g n new (stores t c h s)
+        ≡ shown f (lent t c h s scr) (record { state = plainOf quarter n (stores t c h s); report = report })
     unfolding shown plainOf policy
-    shows-so report rows new fresh c sound =
+    shows-so report rows new fresh c h sound =
         let d = virtualHeld n t s in
-        let encoded = session-encoded quarter n (stores t c s) (sound .tabled) (sound .ok) in
+        let encoded = session-encoded quarter n (stores t c h s) (sound .tabled) (sound .ok) in
         let first = ap (λ q. q .first) (fresh .rows) ∙ ap (λ q. firstRow (q .h) (q .w) scr (window q d)) followed in
         let last = ap (λ q. q .last) (fresh .rows) ∙ ap (λ q. lastRow (q .h) (q .w) scr (window q d)) followed in
         let screen = fresh .screen ∙ ap (λ q. window q d) followed in
@@ -261,13 +262,14 @@ pub session-sound : (s : Session) (b : Lent) → tabled (s .frame .h) (s .frame 
 unfolding isSession
 session-sound s b fit ok = record { tabled = tabled-facts (s .frame .h) (s .frame .w) b fit .stores; ok = and-left _ _ ok }
 
--- What is known once the editor has done a key: record and stores are sound, the sizes are as before, showing them is `keyed`, and the newlines
--- left of the cursor follow from those before.
+-- What is known once the editor has done a key: record and stores are sound, the sizes are as before, showing them is `keyed`, and but for CUT
+-- the newlines left of the cursor follow from those before.
 pub record Accepted (s : Session) (k : Key) (b : Lent) (after : Stores) (r : EditorReply) : Type 0 where
   pub sound : Sound quarter (r .lengths) after
   pub fit : tabled (s .frame .h) (s .frame .w) (record { stores = after; screen = b .screen }) ≡ true
   pub shows : shown (s .frame) (record { stores = after; screen = b .screen }) (reported r after) ≡ keyed s k b
-  pub left : LeftCounted (newlinesLeft (s .lengths .main .l) (b .stores .text)) (s .lengths .main .l) (r .lengths .main .l) (r .report .lines) (after .text)
+  pub left : cuts k ≡ false
+      → LeftCounted (newlinesLeft (s .lengths .main .l) (b .stores .text)) (s .lengths .main .l) (r .lengths .main .l) (r .report .lines) (after .text)
 
 module _ (s : Session) (k : Key) (b : Lent) (fit : tabled (s .frame .h) (s .frame .w) b ≡ true) (ok : isSession s (b .stores) ≡ true)
     (after : Stores) (r : EditorReply) where
@@ -298,17 +300,15 @@ module _ (s : Session) (k : Key) (b : Lent) (fit : tabled (s .frame .h) (s .fram
       let (lengths, same, report) = done-reply (s .lengths) (b .stores) after r did e in
       let facts = tabled-facts (s .frame .h) (s .frame .w) b fit in
       let kept = key-keeps (T (b .stores)) quarter k (held s (b .stores)) did (session-view s b fit ok .good .sound) outcome in
-      let sized-so = ap (sized quarter) same ∙ encoded-sized (T (b .stores)) quarter (did .state) (facts .low) (facts .high) kept in
-      let ok-so = ap₂ (editorOk quarter) lengths same ∙ encoded-ok (T (b .stores)) quarter (did .state) kept in
-      let state = ap₂ (plainOf quarter) lengths same ∙ plain-of-encoded (T (b .stores)) quarter (did .state) kept in
-      let long = ap T same ∙ length-gapped (T (b .stores)) (did .state .main .text) (kept .text .fits) in
+      let sized-so = ap (sized quarter) same ∙ encoded-sized (T (b .stores)) quarter (did .state) (facts .low) (facts .high) (kept .texts) in
+      let ok-so = ap₂ (editorOk quarter) lengths same ∙ encoded-ok (T (b .stores)) quarter (did .state) (kept .texts) (kept .mark) in
+      let state = ap₂ (plainOf quarter) lengths same ∙ plain-of-encoded (T (b .stores)) quarter (did .state) (kept .texts) in
+      let long = ap T same ∙ length-gapped (T (b .stores)) (did .state .main .text) (kept .texts .text .fits) in
       let o = shown (s .frame) (record { stores = after; screen = b .screen }) did in
       let (sound-key, room, did-so) = accepted (T (b .stores)) quarter k (held s (b .stores)) did .0 outcome in
       let p = held s (b .stores) in
-      let left-so = subst (λ d. LeftKept (p .main .text) (d .state .main .text) (d .report .lines)) did-so (left-kept k p) in
       let n = s .lengths .main in
       let document = fitting quarter (s .lengths) (b .stores) (session-sound s b fit ok) .document in
-      let counted = counted-left (n .l) (n .r) (T (b .stores)) (did .report .lines) (b .stores .text) (did .state .main .text) document left-so in
       record {
         sound = record { tabled = sized-so; ok = ok-so };
         fit = and-both sized-so (and-both (facts .frame) (eq-eqb _ _ (facts .long)));
@@ -316,7 +316,9 @@ module _ (s : Session) (k : Key) (b : Lent) (fit : tabled (s .frame .h) (s .fram
             ap (shown (s .frame) (record { stores = after; screen = b .screen })) (λ i. record { state = state i; report = report i })
             ∙ (ap (λ t. record { answer = o .answer; session = o .session; lent = lentOf t (did .state) (o .session .frame) }) long
             ∙ (ap (finished s b) (sym outcome) ∙ sym (session-keyed s k b fit ok)));
-        left =
+        left = λ other.
+            let left-so = subst (λ d. LeftKept (p .main .text) (d .state .main .text) (d .report .lines)) did-so (left-kept k p other) in
+            let counted = counted-left (n .l) (n .r) (T (b .stores)) (did .report .lines) (b .stores .text) (did .state .main .text) document left-so in
             transport
             (λ i. LeftCounted (newlinesLeft (n .l) (b .stores .text)) (n .l) (sym lengths i .main .l) (sym report i .lines) (sym same i .text)) counted;
       }

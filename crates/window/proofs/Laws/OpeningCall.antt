@@ -1,4 +1,4 @@
--- The opening call: what its tests refuse, and what a text that passes them becomes in the four stores.
+-- The opening call: what its tests refuse, and what a text that passes them becomes in the five stores.
 use mathlib.Core.Path.{_≡_, sym, ap, _∙_}
 use mathlib.Core.Bool.{Bool, true, false, not, _&&_}
 use mathlib.Core.List.{List, []}
@@ -62,7 +62,7 @@ module _ (n H W : ℕ) (b : Lent) (fit : tabled H W b ≡ true) (fits : n ≤ T 
   short = omega (arith, size)
 
   -- With lengths and stores as the editor leaves them.
-  module _ {m : Lengths} {textThen recallThen sideThen : List ℕ} (opens : Opens m n (b .stores) (stores textThen recallThen sideThen))
+  module _ {m : Lengths} {textThen recallThen heldThen sideThen : List ℕ} (opens : Opens m n (b .stores) (stores textThen recallThen heldThen sideThen))
       (kept : length sideThen ≡ length (b .stores .side)) where
     main : textThen ≡ gapped (T (b .stores)) document
     unfolding storesOf
@@ -98,7 +98,7 @@ module _ (n H W : ℕ) (b : Lent) (fit : tabled H W b ≡ true) (fits : n ≤ T 
           ),
         )
 
-    -- The reply and the four stores are those of the text opened.
+    -- The reply and the five stores are those of the text opened.
     pub text-opened : {screenThen : List ℕ} {rows : Rows}
         → Refreshed (start H W) (virtualHeld m textThen sideThen) (b .screen) rows screenThen
         → called
@@ -106,7 +106,7 @@ module _ (n H W : ℕ) (b : Lent) (fit : tabled H W b ≡ true) (fits : n ≤ T 
           answer = record { code = 0; place = 0; report = quiet; first = 1; last = H; row = 1; column = 0 };
           session = record { lengths = m; frame = start H W };
         })
-        (lent textThen recallThen sideThen screenThen)
+        (lent textThen recallThen heldThen sideThen screenThen)
         ≡ openedText n H W b
     unfolding openedText virtualIn newlines sinceAfter
     text-opened fresh =

@@ -54,22 +54,22 @@ tabled-facts H W b e =
 module _ (size : ℕ) (v : View) (good : Good size v) (screen : List ℕ) (long : length screen ≡ v .frame .h * v .frame .w) where
   -- It holds the plain state again, its stores are as tabled, and it is a session.
   pub view-held : held (recordOf v) (storesOf size quarter (v .plain)) ≡ v .plain
-  view-held = plain-of-encoded size quarter (v .plain) (good .sound)
+  view-held = plain-of-encoded size quarter (v .plain) (good .sound .texts)
 
   pub view-tabled : tabled (v .frame .h) (v .frame .w) (storesWith size v screen) ≡ true
   unfolding tabled
   view-tabled =
-      and-both (encoded-sized size quarter (v .plain) (good .low) (good .high) (good .sound))
+      and-both (encoded-sized size quarter (v .plain) (good .low) (good .high) (good .sound .texts))
       (and-both (good .tabled) (eq-eqb _ _ long))
 
   pub view-session : isSession (recordOf v) (storesOf size quarter (v .plain)) ≡ true
   unfolding isSession
   view-session =
-      and-both (encoded-ok size quarter (v .plain) (good .sound)) (ap (λ p. visible (v .frame) (virtual p)) view-held ∙ good .seen)
+      and-both (encoded-ok size quarter (v .plain) (good .sound .texts) (good .sound .mark)) (ap (λ p. visible (v .frame) (virtual p)) view-held ∙ good .seen)
 
   pub view-size : T (storesOf size quarter (v .plain)) ≡ size
   unfolding storesOf
-  view-size = length-gapped size (v .plain .main .text) (good .sound .text .fits)
+  view-size = length-gapped size (v .plain .main .text) (good .sound .texts .text .fits)
 
   -- The key call on it is the plain editor's key on the plain state.
   pub view-keyed : (k : Key)

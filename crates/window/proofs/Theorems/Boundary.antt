@@ -1,4 +1,4 @@
--- The demands at the host's boundary: of the calls in numbers, for any record, any key numbers and any four stores.
+-- The demands at the host's boundary: of the calls in numbers, for any record, any key numbers and any five stores.
 use mathlib.Core.Path.{_≡_, refl, sym, ap, ap₂, subst⁻¹, _∙_}
 use mathlib.Core.Logic.{_↔_, ⊎-elim}
 use mathlib.Core.Bool.{Bool, true, false, not, _&&_, cond}
@@ -18,6 +18,7 @@ use Rattle.editor.specs.Rules.Refusals.{SIZE, LONG, TEXT, SESSION, KEY, FULL}
 use Rattle.editor.specs.Rules.Plain.{Plain, opening, quiet, Did, reporting, Outcome, refused, done}
 use Rattle.editor.specs.Rules.Keys.{soundKey, pressed, fits, key, after}
 use Rattle.editor.specs.Rules.Bytes.{quarter}
+use Rattle.window.specs.Words.{Mode}
 use Rattle.window.specs.declared.host.Record.{Record}
 use Rattle.window.specs.Rules.Window.{virtual, policy}
 use Rattle.window.specs.Rules.Core.{Lent, Called, T, tabled, isSession, held, start, openedText, finished, shown, keyed}
@@ -34,7 +35,8 @@ use Rattle.window.proofs.Theorems.Refusals.{opening-done, opening-place
 use Rattle.window.proofs.Theorems.Sessions.{opening-view, session-keyed, key-follows}
 use Rattle.window.proofs.Theorems.NamedRows.{unchanged-shortest}
 use Rattle.window.proofs.Theorems.DemandThree.{key-names}
-use Rattle.window.proofs.Theorems.OverAndBack.{session-over, record-over, mode-low, unnamed}
+use Rattle.window.proofs.Theorems.OverAndBack.{record-over, mode-low, unnamed}
+use Rattle.window.proofs.Theorems.Marks.{session-comes-back}
 
 -- ---- Demand 1, opening: every call answers, each refusal exactly when and in order, and a refused one leaves everything
 
@@ -81,12 +83,12 @@ module _ (n H W : ℕ) (b : Lent) where
 -- ---- Demand 1, keys
 
 -- Numbers that name no key are no sound key.
-named-sound : (x : KeyNumbers) → soundKey (keyOf x) ≡ (names x && soundKey (keyOf x))
+named-sound : (mode : Mode) (x : KeyNumbers) → soundKey mode (keyOf x) ≡ (names x && soundKey mode (keyOf x))
 unfolding soundKey
-named-sound x =
+named-sound mode x =
     ⊎-elim
-    (λ named. ap (λ t. t && soundKey (keyOf x)) (sym named))
-    (λ none. ap soundKey (unnamed x none) ∙ ap (λ t. t && soundKey (keyOf x)) (sym none))
+    (λ named. ap (λ t. t && soundKey mode (keyOf x)) (sym named))
+    (λ none. ap (soundKey mode) (unnamed x none) ∙ ap (λ t. t && soundKey mode (keyOf x)) (sym none))
     (decided (names x))
 
 no-mode-code : (t : Bool) (checks : List Check) → cond t SESSION SIZE ≡ firstFailed (check SIZE t ∷ check SESSION false ∷ checks)
@@ -107,7 +109,7 @@ module _ (n : Record) (x : KeyNumbers) (b : Lent) where
   pub host-key-code : hostPressed n x b .said .code ≡ firstFailed (hostKeyChecks n x b)
   host-key-code =
       ⊎-elim
-      (λ low. ap (λ g. g .said .code) (in-mode low) ∙ (key-code (sessionFrom n) (keyOf x) b ∙ rw (low, ← named-sound x)))
+      (λ low. ap (λ g. g .said .code) (in-mode low) ∙ (key-code (sessionFrom n) (keyOf x) b ∙ rw (low, ← named-sound (hostHeld n (b .stores) .mode) x)))
       (λ high. ap (λ g. g .said .code) (off-mode high) ∙ rw high (no-mode-code (tabled (n .rows) (n .columns) b) _))
       (decided (leb (n .mode) 1))
 
@@ -121,12 +123,15 @@ module _ (n : Record) (x : KeyNumbers) (b : Lent) where
 
   pub host-key-key : (hostPressed n x b .said .code ≡ KEY)
       ↔ (Passing (check SIZE (tabled (n .rows) (n .columns) b) ∷ check SESSION (isHostSession n (b .stores)) ∷ [])
-      × ((names x && soundKey (keyOf x)) ≡ false))
+      × ((names x && soundKey (hostHeld n (b .stores) .mode) (keyOf x)) ≡ false))
   host-key-key = rw host-key-code (exactly (check SIZE _ ∷ check SESSION _ ∷ []) KEY _ _ refl refl)
 
   pub host-key-full : (hostPressed n x b .said .code ≡ FULL)
       ↔ (Passing
-      (check SIZE (tabled (n .rows) (n .columns) b) ∷ check SESSION (isHostSession n (b .stores)) ∷ check KEY (names x && soundKey (keyOf x)) ∷ [])
+      (check SIZE (tabled (n .rows) (n .columns) b)
+      ∷ check SESSION (isHostSession n (b .stores))
+      ∷ check KEY (names x && soundKey (hostHeld n (b .stores) .mode) (keyOf x))
+      ∷ [])
       × (fits (T (b .stores)) quarter (pressed (keyOf x) (hostHeld n (b .stores)) .state) ≡ false))
   host-key-full = rw host-key-code (exactly (check SIZE _ ∷ check SESSION _ ∷ check KEY _ ∷ []) FULL _ _ refl refl)
 
@@ -150,7 +155,7 @@ module _ (n : Record) (x : KeyNumbers) (b : Lent) where
   pub unnamed-refused : names x ≡ false → tabled (n .rows) (n .columns) b ≡ true → isHostSession n (b .stores) ≡ true
       → hostPressed n x b ≡ hostTurnedDown n b KEY
   unnamed-refused none fit ok =
-      let code = host-key-key .1 ((fit, (ok, tt)), ap (λ t. t && soundKey (keyOf x)) none) in
+      let code = host-key-key .1 ((fit, (ok, tt)), ap (λ t. t && soundKey (hostHeld n (b .stores) .mode) (keyOf x)) none) in
       host-key-leaves (λ e. absurd (omega (arith, code, e))) ∙ ap (hostTurnedDown n b) code
 
 -- ---- Demand 2: record and stores hold what the plain editor says, and the answer is its report
@@ -158,12 +163,13 @@ module _ (n : Record) (x : KeyNumbers) (b : Lent) where
 -- What follows from a call of the core follows in numbers.
 given-follows : (o : Called) (p : Plain) → Follows o p → HostFollows (givenOf o) p
 given-follows o p follows =
+    let back = session-comes-back (o .session) (o .lent) (record { fit = follows .fit; ok = follows .session }) in
     record {
       fit = follows .fit;
       session =
           and-both (le-leb _ 1 (mode-low (o .session .lengths .mode)))
-          (ap (λ s. isSession s (o .lent .stores)) (session-over (o .session)) ∙ follows .session);
-      holds = ap (λ s. held s (o .lent .stores)) (session-over (o .session)) ∙ follows .holds;
+          (ap (λ s. isSession s (o .lent .stores)) back ∙ follows .session);
+      holds = ap (λ s. held s (o .lent .stores)) back ∙ follows .holds;
     }
 
 module _ (n H W : ℕ) (b : Lent) (accepts : hostOpened n H W b .said .code ≡ 0) where

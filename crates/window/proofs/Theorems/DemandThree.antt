@@ -37,7 +37,7 @@ looked-after v (done did) = refl
 pub picture-printable : (size : ℕ) (v : View) → Good size v → every printable (picture v) ≡ true
 picture-printable size v good =
     window-printable (v .frame) (virtual (v .plain))
-    (virtual-allowed (v .plain .mode) (v .plain .main .text) (v .plain .quoted .text) (good .sound .text .bytes) (good .sound .quotation .bytes))
+    (virtual-allowed (v .plain .mode) (v .plain .main .text) (v .plain .quoted .text) (good .sound .texts .text .bytes) (good .sound .texts .quotation .bytes))
 
 -- Repainting with no named rows changes nothing; with those of an accepted key it shows the new window.
 outcome-showing : (size : ℕ) (v : View) → Good size v → (o : Outcome)

@@ -10,13 +10,14 @@ use Rattle.gap.specs.Rules.Lines.{newlines, sinceAfter, lines}
 use Rattle.gap.specs.Rules.Layout.{gapped, paired, ungap, unpair, soundGap, soundPair}
 use Rattle.editor.specs.Rules.Passages.{withLines, passageTo}
 use Rattle.editor.specs.Rules.Places.{lineBeginning, lineEnding, word, documentEnd, isAt}
+use Rattle.editor.specs.Rules.Marks.{markThrough}
 use Rattle.editor.specs.Rules.Keys.{soundKey, inserted, carried, function, recalled, onSide, quoted, withPattern, searched, found}
-use Rattle.editor.specs.Rules.Keys.{withReplacement, exchanged, substituted, replaced, pressed, fits, bounded, key}
+use Rattle.editor.specs.Rules.Keys.{withReplacement, exchanged, substituted, replaced, markedHere, cutTo, pasted, acted, changeOf, pressed, fits, bounded, key}
 use Rattle.editor.specs.Rules.Bytes.{quarter, sized, plainOf, lengthsOf, storesOf, editorOk}
 use Rattle.window.specs.Rules.Window.{virtualIn, rowCells, joined, window, visible, policy}
 use Rattle.window.specs.Rules.Rows.{firstRow, lastRow}
 use Rattle.window.specs.Rules.Core.{tabled, isSession, openedText, opened, shown, finished, keyed}
-use Rattle.window.specs.Rules.Host.{none, keyFrom, keyOf, names, hostOpened, hostKeyed}
+use Rattle.window.specs.Rules.Host.{noMark, none, keyFrom, keyOf, names, hostOpened, hostKeyed}
 use Rattle.window.specs.Tables.HostNumbers.{keyRows, noKeys, said, pressedOn, lastReply, callRows, refusedReply, refusedRows}
 
 -- Which number is which kind, action, direction and place.
@@ -35,7 +36,8 @@ pub calls-numbered : (map lastReply callRows ≡ map (λ row. row .reply) callRo
     × (map refusedReply refusedRows ≡ map (λ row. record { said = said (row .code) 0 0 0 0 0 0 0 0; back = row .handed }) refusedRows)
 unfolding every sameBytes begins part zeros counted move delete times passed splice nearest distance withLines passageTo newlines sinceAfter
     lines gapped paired ungap unpair soundGap soundPair lineBeginning lineEnding word documentEnd isAt soundKey inserted removed carried
-    function recalled onSide quoted withPattern searched found withReplacement exchanged substituted replaced pressed fits bounded key
-    quarter sized plainOf lengthsOf storesOf editorOk virtualIn rowCells joined window visible policy firstRow lastRow tabled isSession
-    openedText opened shown finished keyed bytes keyFrom hostOpened hostKeyed pressedOn lastReply refusedReply
+    function recalled onSide quoted withPattern searched found withReplacement exchanged substituted replaced markedHere cutTo pasted acted
+    changeOf markThrough pressed fits bounded key quarter sized plainOf lengthsOf storesOf editorOk virtualIn rowCells joined window visible
+    policy firstRow lastRow tabled isSession openedText opened shown finished keyed bytes noMark keyFrom hostOpened hostKeyed pressedOn
+    lastReply refusedReply
 calls-numbered = (refl, refl)

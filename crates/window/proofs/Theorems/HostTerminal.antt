@@ -10,12 +10,12 @@ use Rattle.editor.specs.Rules.Refusals.{KEY}
 use Rattle.editor.specs.Rules.Plain.{Plain, opening, refused}
 use Rattle.editor.specs.Rules.Keys.{soundKey, key, keys}
 use Rattle.editor.specs.Rules.Bytes.{quarter}
-use Rattle.window.specs.Words.{Session}
+use Rattle.window.specs.Words.{At, Session}
 use Rattle.window.specs.Rules.Core.{Lent, T, keyed}
 use Rattle.window.specs.Rules.Terminal.{Bench, View, openingView, openedBench, struck, typed, looked, viewed, picture}
 use Rattle.window.specs.Rules.Sending.{SendOutcome}
 use Rattle.window.specs.Rules.Machine.{Machine, Line, openedLine, struckLine, typedLine, showing, Ready}
-use Rattle.window.specs.Rules.Host.{recordFrom, none, KeyNumbers, keyOf, names, Given, givenOf, hostOpened, hostPressed}
+use Rattle.window.specs.Rules.Host.{noMark, recordFrom, none, KeyNumbers, keyOf, names, Given, givenOf, hostOpened, hostPressed}
 use Rattle.window.specs.Rules.HostRun.{keysNamed, HostBench, hostOpenedBench, hostShown, hostStruck, hostTyped}
 use Rattle.window.specs.Rules.HostRun.{HostLine, hostBytes, hostReceived, hostOpenedLine, hostStruckLine, hostTypedLine}
 use Rattle.window.specs.Wording.Promise.{HostOpenPromise, HostSendAfterPromise}
@@ -23,14 +23,17 @@ use Rattle.window.specs.Wording.Promise.{HostBenchRun, host-at-end, host
 use Rattle.window.proofs.Theorems.DemandThree.{demand-three}
 use Rattle.window.proofs.Theorems.Line.{demand-three-line}
 use Rattle.window.proofs.Theorems.OverAndBack.{session-over, mode-low, unnamed}
+use Rattle.window.proofs.Theorems.Marks.{opening-numbered, key-numbered}
 use Rattle.window.proofs.Theorems.Boundary.{in-mode}
 
 -- ---- Handed on
 
--- A record that came from the core goes back to it as it was: the call in numbers is the core's.
-pressed-over : (s : Session) (x : KeyNumbers) (b : Lent) → hostPressed (recordFrom s) x b ≡ givenOf (keyed s (keyOf x) b)
-pressed-over s x b =
-    in-mode (recordFrom s) x b (le-leb _ 1 (mode-low (s .lengths .mode))) ∙ ap (λ s. givenOf (keyed s (keyOf x) b)) (session-over s)
+-- A record that came from the core goes back to it as it was: the call in numbers is the core's. That its mark has a number of its own is so from
+-- call to call.
+pressed-over : (s : Session) (x : KeyNumbers) (b : Lent) → ¬ (s .lengths .mark ≡ At noMark)
+    → hostPressed (recordFrom s) x b ≡ givenOf (keyed s (keyOf x) b)
+pressed-over s x b other =
+    in-mode (recordFrom s) x b (le-leb _ 1 (mode-low (s .lengths .mode))) ∙ ap (λ s. givenOf (keyed s (keyOf x) b)) (session-over s .1 other)
 
 -- Numbers that name no key leave the view: they are an insert of byte 0, which the plain editor refuses.
 none-refused : (size : ℕ) (p : Plain) → key size quarter none p ≡ refused KEY
@@ -53,14 +56,18 @@ skipped size (x ∷ xs) v =
 abbrev inNumbers : Bench → HostBench
 inNumbers at = record { given = givenOf (at .called); terminal = at .terminal }
 
-struck-over : (x : KeyNumbers) (at : Bench) → hostStruck x (inNumbers at) ≡ inNumbers (struck (keyOf x) at)
+struck-over : (x : KeyNumbers) (at : Bench) → ¬ (at .called .session .lengths .mark ≡ At noMark)
+    → hostStruck x (inNumbers at) ≡ inNumbers (struck (keyOf x) at)
 unfolding hostStruck struck
-struck-over x at = ap (λ g. hostShown g (at .terminal)) (pressed-over (at .called .session) x (at .called .lent))
+struck-over x at other = ap (λ g. hostShown g (at .terminal)) (pressed-over (at .called .session) x (at .called .lent) other)
 
-typed-over : (xs : List KeyNumbers) (at : Bench) → hostTyped xs (inNumbers at) ≡ inNumbers (typed (map keyOf xs) at)
-unfolding hostTyped typed
-typed-over [] at = refl
-typed-over (x ∷ xs) at = ap (hostTyped xs) (struck-over x at) ∙ typed-over xs (struck (keyOf x) at)
+typed-over : (xs : List KeyNumbers) (at : Bench) → ¬ (at .called .session .lengths .mark ≡ At noMark)
+    → hostTyped xs (inNumbers at) ≡ inNumbers (typed (map keyOf xs) at)
+unfolding hostTyped typed struck
+typed-over [] at other = refl
+typed-over (x ∷ xs) at other =
+    ap (hostTyped xs) (struck-over x at other)
+    ∙ typed-over xs (struck (keyOf x) at) (key-numbered (at .called .session) (keyOf x) (at .called .lent) other)
 
 -- The terminal shows the window of the plain document after the keys that the numbers name, refused ones skipped.
 module _ (n H W : ℕ) (b : Lent) (accepts : hostOpened n H W b .said .code ≡ 0) where
@@ -70,7 +77,7 @@ module _ (n H W : ℕ) (b : Lent) (accepts : hostOpened n H W b .said .code ≡ 
       ≡ keys (T (b .stores)) quarter (keysNamed xs) (opening (take n (b .stores .text))))
   unfolding hostOpened
   host-demand-three xs = (
-    ap (λ at. at .terminal) (typed-over xs (openedBench n H W b))
+    ap (λ at. at .terminal) (typed-over xs (openedBench n H W b) (opening-numbered n H W b accepts))
         ∙ (demand-three n H W b accepts (map keyOf xs) .0 ∙ ap picture (skipped (T (b .stores)) xs (openingView n H W b))),
     demand-three n H W b accepts (keysNamed xs) .1,
   )
@@ -80,15 +87,19 @@ module _ (n H W : ℕ) (b : Lent) (accepts : hostOpened n H W b .said .code ≡ 
 abbrev lineInNumbers : Line → HostLine
 lineInNumbers at = record { given = givenOf (at .called); buffer = at .buffer; terminal = at .terminal }
 
-struck-line-over : (x : KeyNumbers) (at : Line) → hostStruckLine x (lineInNumbers at) ≡ lineInNumbers (struckLine (keyOf x) at)
+struck-line-over : (x : KeyNumbers) (at : Line) → ¬ (at .called .session .lengths .mark ≡ At noMark)
+    → hostStruckLine x (lineInNumbers at) ≡ lineInNumbers (struckLine (keyOf x) at)
 unfolding hostStruckLine struckLine
-struck-line-over x at =
-    ap (λ g. hostReceived g (hostBytes g (at .buffer)) (at .terminal)) (pressed-over (at .called .session) x (at .called .lent))
+struck-line-over x at other =
+    ap (λ g. hostReceived g (hostBytes g (at .buffer)) (at .terminal)) (pressed-over (at .called .session) x (at .called .lent) other)
 
-typed-line-over : (xs : List KeyNumbers) (at : Line) → hostTypedLine xs (lineInNumbers at) ≡ lineInNumbers (typedLine (map keyOf xs) at)
-unfolding hostTypedLine typedLine
-typed-line-over [] at = refl
-typed-line-over (x ∷ xs) at = ap (hostTypedLine xs) (struck-line-over x at) ∙ typed-line-over xs (struckLine (keyOf x) at)
+typed-line-over : (xs : List KeyNumbers) (at : Line) → ¬ (at .called .session .lengths .mark ≡ At noMark)
+    → hostTypedLine xs (lineInNumbers at) ≡ lineInNumbers (typedLine (map keyOf xs) at)
+unfolding hostTypedLine typedLine struckLine
+typed-line-over [] at other = refl
+typed-line-over (x ∷ xs) at other =
+    ap (hostTypedLine xs) (struck-line-over x at other)
+    ∙ typed-line-over xs (struckLine (keyOf x) at) (key-numbered (at .called .session) (keyOf x) (at .called .lent) other)
 
 -- The same of a terminal that is sent the routine's bytes after each call, with its cursor; the host brings a buffer with room.
 module _ (n H W : ℕ) (b : Lent) (accepts : hostOpened n H W b .said .code ≡ 0) (buffer : List ℕ) (m : Machine) (ready : Ready H W buffer m) where
@@ -98,7 +109,7 @@ module _ (n H W : ℕ) (b : Lent) (accepts : hostOpened n H W b .said .code ≡ 
       ≡ keys (T (b .stores)) quarter (keysNamed xs) (opening (take n (b .stores .text))))
   unfolding hostOpened hostOpenedLine openedLine
   host-demand-three-line xs = (
-    ap (λ at. at .terminal) (typed-line-over xs (openedLine n H W b buffer m))
+    ap (λ at. at .terminal) (typed-line-over xs (openedLine n H W b buffer m) (opening-numbered n H W b accepts))
         ∙ (demand-three-line n H W b accepts buffer m ready (map keyOf xs) .0 ∙ ap showing (skipped (T (b .stores)) xs (openingView n H W b))),
     demand-three-line n H W b accepts buffer m ready (keysNamed xs) .1,
   )

@@ -69,8 +69,8 @@ module _ (s : Session) (k : Key) (b : Lent) where
           λ (fit, bad). key-session s k b .1 ((fit, tt), bad),
         );
         unsound = (
-          λ e. let (passed, bad) = key-key s k b .0 e in (record { fit = passed .0; ok = passed .1 .0 }, key-unsound k .0 bad),
-          λ (on, bad). key-key s k b .1 ((on .fit, (on .ok, tt)), key-unsound k .1 bad),
+          λ e. let (passed, bad) = key-key s k b .0 e in (record { fit = passed .0; ok = passed .1 .0 }, key-unsound (state .mode) k .0 bad),
+          λ (on, bad). key-key s k b .1 ((on .fit, (on .ok, tt)), key-unsound (state .mode) k .1 bad),
         );
         full = (
           λ e.

@@ -1,19 +1,19 @@
 -- The numbers of the host's boundary: what goes over and back is the same, and which numbers name which key.
 use mathlib.Core.Path.{_≡_, refl, sym, ap, _∙_}
 use mathlib.Core.Logic.{_↔_, ⊎-elim}
-use mathlib.Core.Bool.{Bool, true, false, _&&_}
+use mathlib.Core.Bool.{Bool, true, false, _&&_, false≢true}
 use Prim.Native.Nat.{ℕ, zero, suc, _≤_, _<_}
 use native.Mathlib.Omega.{arith}
 use lib.Dec.{eqb, leb}
-use borrow.Author.Tests.{leb-true, lt-leb, eq-eqb, ne-eqb}
-use Rattle.gap.proofs.Laws.Tests.{decided, clash, and-left, and-right, and-both}
+use borrow.Author.Tests.{leb-true, lt-leb, eqb-true, eq-eqb, ne-eqb}
+use Rattle.gap.proofs.Laws.Tests.{decided, clash, and-left, and-right, and-both, cond-true, cond-false}
 use Rattle.gap.specs.Rules.Numbers.{bit}
-use Rattle.window.specs.Words.{Mode, Main, Quoted, Session, Answer, Direction, Left, Right, Action, Move, Delete}
+use Rattle.window.specs.Words.{Marking, Unmarked, At, Mode, Main, Quoted, Session, Answer, Direction, Left, Right, Action, Move, Delete}
 use Rattle.window.specs.Words.{Place, Character, Word, LineBeginning, LineEnding, Document}
-use Rattle.window.specs.Words.{Key, Insert, Function, Recall, Quote, Find, Replace}
+use Rattle.window.specs.Words.{Key, Insert, Function, Recall, Quote, Find, Replace, Mark, Cut, Paste}
 use Rattle.window.specs.declared.host.Record.{Record}
 use Rattle.window.specs.declared.host.Said.{Said}
-use Rattle.window.specs.Rules.Host.{modeOf, modeNumber, sessionFrom, recordFrom, saidOf, answerFrom, none}
+use Rattle.window.specs.Rules.Host.{modeOf, modeNumber, noMark, markFrom, markNumber, sessionFrom, recordFrom, saidOf, answerFrom, none}
 use Rattle.window.specs.Rules.Host.{actionFrom, directionFrom, placeFrom, functionFrom, keyFrom, KeyNumbers, keyOf, names, lookedAt}
 use Rattle.window.specs.Rules.Host.{actionNumber, directionNumber, placeNumber, numbers, numbersOfKey, ofByte}
 
@@ -23,9 +23,26 @@ mode-over : (m : Mode) → modeOf (modeNumber m) ≡ m
 mode-over Main = refl
 mode-over Quoted = refl
 
--- Every session record comes back from its numbers as it was.
-pub session-over : (s : Session) → sessionFrom (recordFrom s) ≡ s
-session-over s = rw (mode-over (s .lengths .mode))
+unmarked-at : {m : ℕ} → ¬ (Unmarked ≡ At m)
+unmarked-at e = false≢true cc
+
+at-same : {m n : ℕ} → At m ≡ At n → m ≡ n
+at-same e = cc
+
+mark-over : (mark : Marking) → (markFrom (markNumber mark) ≡ mark) ↔ (¬ (mark ≡ At noMark))
+mark-over Unmarked = (λ e. unmarked-at, λ other. cond-true _ _ (eq-eqb noMark noMark refl))
+mark-over (At m) = (
+  λ e same. unmarked-at (sym (cond-true _ _ (eq-eqb m noMark (at-same same))) ∙ e),
+  λ other. cond-false _ _ (ne-eqb m noMark (λ same. other (ap At same))),
+)
+
+-- A session record comes back from its numbers as it was exactly when its mark is not at the number that says that there is none. So does every
+-- session: session-comes-back in Theorems/Marks.
+pub session-over : (s : Session) → (sessionFrom (recordFrom s) ≡ s) ↔ (¬ (s .lengths .mark ≡ At noMark))
+session-over s = (
+  λ e. mark-over (s .lengths .mark) .0 (ap (λ t. t .lengths .mark) e),
+  λ other. rw (mode-over (s .lengths .mode), mark-over (s .lengths .mark) .1 other),
+)
 
 number-over : (m : ℕ) → m ≤ 1 → modeNumber (modeOf m) ≡ m
 number-over zero low = refl
@@ -36,9 +53,19 @@ pub mode-low : (m : Mode) → modeNumber m ≤ 1
 mode-low Main = omega arith
 mode-low Quoted = omega arith
 
+mark-number-over : (m : ℕ) → markNumber (markFrom m) ≡ m
+mark-number-over m =
+    ⊎-elim
+    (λ none. ap markNumber (cond-true Unmarked (At m) none) ∙ sym (eqb-true m noMark none))
+    (λ some. ap markNumber (cond-false Unmarked (At m) some))
+    (decided (eqb m noMark))
+
 -- A host's record comes back from the core as it was, number for number, exactly when its mode is 0 or 1.
 pub record-over : (n : Record) → (recordFrom (sessionFrom n) ≡ n) ↔ (n .mode ≤ 1)
-record-over n = (λ e. omega (arith, ap (λ r. r .mode) e, mode-low (modeOf (n .mode))), λ low. rw (number-over (n .mode) low))
+record-over n = (
+  λ e. omega (arith, ap (λ r. r .mode) e, mode-low (modeOf (n .mode))),
+  λ low. rw (number-over (n .mode) low, mark-number-over (n .mark)),
+)
 
 -- ---- The answer
 
@@ -94,6 +121,9 @@ key-over Recall low = (refl, refl)
 key-over Quote low = (refl, refl)
 key-over (Find way) low = (direction-over way .0, rw (direction-over way .0, direction-over way .1))
 key-over Replace low = (refl, refl)
+key-over Mark low = (refl, refl)
+key-over Cut low = (refl, refl)
+key-over Paste low = (refl, refl)
 
 action-back : (a : ℕ) → leb a 1 ≡ true → actionNumber (actionFrom a) ≡ a
 action-back zero low = refl
@@ -113,7 +143,7 @@ place-back (suc (suc (suc zero))) low = refl
 place-back (suc (suc (suc (suc zero)))) low = refl
 place-back (suc (suc (suc (suc (suc p))))) low = absurd (omega (arith, leb-true (suc (suc (suc (suc (suc p))))) 4 low))
 
--- A kind is one of the six, or above 5 and then none of them.
+-- A kind is one of the nine, or above 8 and then none of them.
 record Above (kind : ℕ) : Type 0 where
   k0 : eqb kind 0 ≡ false
   k1 : eqb kind 1 ≡ false
@@ -121,9 +151,12 @@ record Above (kind : ℕ) : Type 0 where
   k3 : eqb kind 3 ≡ false
   k4 : eqb kind 4 ≡ false
   k5 : eqb kind 5 ≡ false
-  high : leb kind 5 ≡ false
+  k6 : eqb kind 6 ≡ false
+  k7 : eqb kind 7 ≡ false
+  k8 : eqb kind 8 ≡ false
+  high : leb kind 8 ≡ false
 
-is-above : (kind : ℕ) → 5 < kind → Above kind
+is-above : (kind : ℕ) → 8 < kind → Above kind
 is-above kind high =
     record {
       k0 = ne-eqb kind 0 (λ e. omega arith);
@@ -132,23 +165,30 @@ is-above kind high =
       k3 = ne-eqb kind 3 (λ e. omega arith);
       k4 = ne-eqb kind 4 (λ e. omega arith);
       k5 = ne-eqb kind 5 (λ e. omega arith);
-      high = lt-leb kind 5 high;
+      k6 = ne-eqb kind 6 (λ e. omega arith);
+      k7 = ne-eqb kind 7 (λ e. omega arith);
+      k8 = ne-eqb kind 8 (λ e. omega arith);
+      high = lt-leb kind 8 high;
     }
 
-by-kind : (P : ℕ → Type 0) → P 0 → P 1 → P 2 → P 3 → P 4 → P 5 → ((kind : ℕ) → Above kind → P kind) → (kind : ℕ) → P kind
-by-kind P p0 p1 p2 p3 p4 p5 above zero = p0
-by-kind P p0 p1 p2 p3 p4 p5 above (suc zero) = p1
-by-kind P p0 p1 p2 p3 p4 p5 above (suc (suc zero)) = p2
-by-kind P p0 p1 p2 p3 p4 p5 above (suc (suc (suc zero))) = p3
-by-kind P p0 p1 p2 p3 p4 p5 above (suc (suc (suc (suc zero)))) = p4
-by-kind P p0 p1 p2 p3 p4 p5 above (suc (suc (suc (suc (suc zero))))) = p5
-by-kind P p0 p1 p2 p3 p4 p5 above (suc (suc (suc (suc (suc (suc kind)))))) =
-    let high : 5 < suc (suc (suc (suc (suc (suc kind))))) = omega arith in above (suc (suc (suc (suc (suc (suc kind)))))) (is-above _ high)
+by-kind : (P : ℕ → Type 0) → P 0 → P 1 → P 2 → P 3 → P 4 → P 5 → P 6 → P 7 → P 8 → ((kind : ℕ) → Above kind → P kind) → (kind : ℕ) → P kind
+by-kind P p0 p1 p2 p3 p4 p5 p6 p7 p8 above zero = p0
+by-kind P p0 p1 p2 p3 p4 p5 p6 p7 p8 above (suc zero) = p1
+by-kind P p0 p1 p2 p3 p4 p5 p6 p7 p8 above (suc (suc zero)) = p2
+by-kind P p0 p1 p2 p3 p4 p5 p6 p7 p8 above (suc (suc (suc zero))) = p3
+by-kind P p0 p1 p2 p3 p4 p5 p6 p7 p8 above (suc (suc (suc (suc zero)))) = p4
+by-kind P p0 p1 p2 p3 p4 p5 p6 p7 p8 above (suc (suc (suc (suc (suc zero))))) = p5
+by-kind P p0 p1 p2 p3 p4 p5 p6 p7 p8 above (suc (suc (suc (suc (suc (suc zero)))))) = p6
+by-kind P p0 p1 p2 p3 p4 p5 p6 p7 p8 above (suc (suc (suc (suc (suc (suc (suc zero))))))) = p7
+by-kind P p0 p1 p2 p3 p4 p5 p6 p7 p8 above (suc (suc (suc (suc (suc (suc (suc (suc zero)))))))) = p8
+by-kind P p0 p1 p2 p3 p4 p5 p6 p7 p8 above (suc (suc (suc (suc (suc (suc (suc (suc (suc kind))))))))) =
+    let high : 8 < suc (suc (suc (suc (suc (suc (suc (suc (suc kind)))))))) = omega arith in
+    above (suc (suc (suc (suc (suc (suc (suc (suc (suc kind))))))))) (is-above _ high)
 
 module _ {kind : ℕ} (above : Above kind) (a b c : ℕ) where
   above-none : keyFrom kind a b c ≡ none
   unfolding keyFrom
-  above-none = rw (above .k0, above .k1, above .k2, above .k3, above .k4, above .k5)
+  above-none = rw (above .k0, above .k1, above .k2, above .k3, above .k4, above .k5, above .k6, above .k7, above .k8)
 
   above-looked : lookedAt (numbers kind a b c) ≡ numbers kind 0 0 0
   above-looked = rw (above .k1, above .k0, above .k4)
@@ -167,6 +207,9 @@ unnamed x =
     (λ e. clash refl e)
     (λ e. rw e)
     (λ e. clash refl e)
+    (λ e. clash refl e)
+    (λ e. clash refl e)
+    (λ e. clash refl e)
     (λ kind above e. above-none above (x .a) (x .b) (x .c))
     (x .kind)
 
@@ -175,6 +218,9 @@ pub unlooked : (x : KeyNumbers) → keyOf (lookedAt x) ≡ keyOf x
 unfolding keyFrom
 unlooked x =
     by-kind (λ kind. let y = numbers kind (x .a) (x .b) (x .c) in keyOf (lookedAt y) ≡ keyOf y)
+    refl
+    refl
+    refl
     refl
     refl
     refl
@@ -194,6 +240,9 @@ zeros-name x =
     (λ e. refl)
     (λ e. refl)
     (λ e. absurd (omega (arith, ap (λ y. y .kind) e)))
+    (λ e. refl)
+    (λ e. refl)
+    (λ e. refl)
     (λ e. refl)
     (λ kind above e. clash (eq-eqb kind 0 (ap (λ y. y .kind) (sym (above-looked above (x .a) (x .b) (x .c)) ∙ e))) (above .k0))
     (x .kind)
@@ -218,6 +267,9 @@ names-exactly x = (
       (λ low. refl)
       (λ low. refl)
       (λ low. rw (low, direction-back (x .a) low))
+      (λ low. refl)
+      (λ low. refl)
+      (λ low. refl)
       (λ low. refl)
       (λ kind above low. clash low (above-unnamed above (x .a) (x .b) (x .c)))
       (x .kind),

@@ -59,7 +59,7 @@ module _ (s : Session) (b : Lent) (on : OnSession s b) (o : Called) where
   state = held s (b .stores)
 
   pub steps-moved : (action : Action) (way : Direction) (place : Place) → KeyPromise s (Function action way place) b o
-      → ¬ Unsound (Function action way place) → StepsTo way (isAt place way) (textIn (state .mode) state) o
+      → ¬ Unsound (state .mode) (Function action way place) → StepsTo way (isAt place way) (textIn (state .mode) state) o
   steps-moved action way place promise good =
       subst⁻¹ (StepsTo way (isAt place way) (textIn (state .mode) state)) promise (function-steps s b on action way place good)
 

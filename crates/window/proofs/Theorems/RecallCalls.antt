@@ -6,13 +6,13 @@ use Prim.Native.Nat.{ℕ, _≤_}
 use Rattle.gap.proofs.Laws.Layout.{length-gapped}
 use Rattle.editor.specs.Rules.Refusals.{FULL}
 use Rattle.editor.specs.Rules.Plain.{Plain, quiet, reporting}
-use Rattle.editor.specs.Rules.Keys.{sideOf, pressed, key, after, Exceeds}
+use Rattle.editor.specs.Rules.Keys.{sideOf, withMark, pressed, key, after, Exceeds}
 use Rattle.editor.specs.Rules.Bytes.{quarter, lengthsOf, storesOf, SoundPlain}
 use Rattle.editor.specs.Wording.Recalling.{withRecall, recallPutIn}
 use Rattle.editor.proofs.Laws.Outcomes.{accepted}
 use Rattle.editor.proofs.Theorems.Sessions.{key-keeps}
 use Rattle.editor.proofs.Theorems.Recall.{function-rings, recall-restores, recall-does, recall-sound}
-use Rattle.window.specs.Words.{Direction, Action, Delete, Place, Function, Recall, Session}
+use Rattle.window.specs.Words.{Direction, Action, Delete, Place, Key, Function, Recall, Session}
 use Rattle.window.specs.Rules.Core.{Lent, Called, T, held, finished, shown}
 use Rattle.window.specs.Wording.Promise.{KeyPromise}
 use Rattle.window.specs.Wording.Demands.{OnSession, Carried, KeyDoes}
@@ -20,40 +20,47 @@ use Rattle.window.proofs.Laws.Views.{session-view}
 use Rattle.window.proofs.Theorems.Sessions.{session-keyed}
 use Rattle.window.proofs.Theorems.Promises.{key-does, key-holds}
 
-module _ (s : Session) (b : Lent) (action : Action) (way : Direction) (place : Place) (o : Called)
-    (promise : KeyPromise s (Function action way place) b o) (accepts : o .answer .code ≡ 0) where
+-- An accepted key, on whatever session.
+module _ (s : Session) (k : Key) (b : Lent) (o : Called) (promise : KeyPromise s k b o) (accepts : o .answer .code ≡ 0) where
   abbrev before : Plain
   before = held s (b .stores)
 
   on : OnSession s b
-  on = key-does s (Function action way place) b o promise .accepted .0 accepts .0
+  on = key-does s k b o promise .accepted .0 accepts .0
 
-  sound : SoundPlain (T (b .stores)) quarter before
+  pub sound : SoundPlain (T (b .stores)) quarter before
   sound = session-view s b (on .fit) (on .ok) .good .sound
 
-  pub carried : Carried s (Function action way place) b o
-  carried = key-does s (Function action way place) b o promise .carried accepts
-
-  -- A move or deletion with the bell: text, recall text and all else that record and stores hold stay as they were.
-  pub bell-holds : o .answer .report .bell ≡ true → held (o .session) (o .lent .stores) ≡ before
-  bell-holds bell =
-      carried .holds
-      ∙ function-rings (T (b .stores)) quarter action way place before (carried .did) (carried .plain) (ap (λ r. r .bell) (sym (carried .report)) ∙ bell)
-
-  -- So do the lengths and the bytes.
-  pub bell-keeps : o .answer .report .bell ≡ true → (o .session .lengths ≡ s .lengths) × (o .lent .stores ≡ b .stores)
-  bell-keeps bell =
-      let same = sym (carried .holds) ∙ bell-holds bell in
-      let view = session-view s b (on .fit) (on .ok) in (
-        carried .lengths ∙ (ap lengthsOf same ∙ ap (λ s. s .lengths) (view .session)),
-        carried .stores ∙ (ap (storesOf (T (b .stores)) quarter) same ∙ ap (λ b. b .stores) (view .lent)),
-      )
+  pub carried : Carried s k b o
+  carried = key-does s k b o promise .carried accepts
 
   pub same-size : T (o .lent .stores) ≡ T (b .stores)
   unfolding storesOf
   same-size =
-      let kept = key-keeps (T (b .stores)) quarter (Function action way place) before (carried .did) sound (carried .plain) in
-      ap T (carried .stores) ∙ length-gapped (T (b .stores)) (carried .did .state .main .text) (kept .text .fits)
+      let kept = key-keeps (T (b .stores)) quarter k before (carried .did) sound (carried .plain) in
+      ap T (carried .stores) ∙ length-gapped (T (b .stores)) (carried .did .state .main .text) (kept .texts .text .fits)
+
+module _ (s : Session) (b : Lent) (action : Action) (way : Direction) (place : Place) (o : Called)
+    (promise : KeyPromise s (Function action way place) b o) (accepts : o .answer .code ≡ 0) where
+  abbrev did-it : Carried s (Function action way place) b o
+  did-it = carried s (Function action way place) b o promise accepts
+
+  -- A move or deletion with the bell: text, recall text and all else that record and stores hold stay as they were.
+  pub bell-holds : o .answer .report .bell ≡ true → held (o .session) (o .lent .stores) ≡ held s (b .stores)
+  bell-holds bell =
+      did-it .holds
+      ∙ function-rings (T (b .stores)) quarter action way place (held s (b .stores)) (did-it .did) (did-it .plain)
+      (ap (λ r. r .bell) (sym (did-it .report)) ∙ bell)
+
+  -- So do the lengths and the bytes.
+  pub bell-keeps : o .answer .report .bell ≡ true → (o .session .lengths ≡ s .lengths) × (o .lent .stores ≡ b .stores)
+  bell-keeps bell =
+      let here = on s (Function action way place) b o promise accepts in
+      let same = sym (did-it .holds) ∙ bell-holds bell in
+      let view = session-view s b (here .fit) (here .ok) in (
+        did-it .lengths ∙ (ap lengthsOf same ∙ ap (λ s. s .lengths) (view .session)),
+        did-it .stores ∙ (ap (storesOf (T (b .stores)) quarter) same ∙ ap (λ b. b .stores) (view .lent)),
+      )
 
 module _ (s : Session) (b : Lent) (way : Direction) (place : Place) (o : Called) (promise : KeyPromise s (Function Delete way place) b o)
     (accepts : o .answer .code ≡ 0) (next : Called) (recalls : KeyPromise (o .session) Recall (o .lent) next) where
@@ -67,25 +74,30 @@ module _ (s : Session) (b : Lent) (way : Direction) (place : Place) (o : Called)
   between = held (o .session) (o .lent .stores)
 
   deleted : Carried s (Function Delete way place) b o
-  deleted = carried s b Delete way place o promise accepts
+  deleted = carried s (Function Delete way place) b o promise accepts
+
+  same-length : T (o .lent .stores) ≡ size
+  same-length = same-size s (Function Delete way place) b o promise accepts
 
   does : KeyDoes (o .session) Recall (o .lent) next
   does = key-does (o .session) Recall (o .lent) next recalls
 
-  -- ---- A deletion that reported steps above 0: RECALL is accepted, and gives text and cursor back
+  -- ---- A deletion that reported steps above 0: RECALL is accepted, and gives text and cursor back; the mark goes through both changes
 
   pub recall-restored : 1 ≤ o .answer .report .steps
-      → (next .answer .code ≡ 0) × (held (next .session) (next .lent .stores) ≡ withRecall (sideOf (start .mode) between .recall) start)
+      → (next .answer .code ≡ 0)
+      × (held (next .session) (next .lent .stores)
+      ≡ withMark (recallPutIn between .mark) (withRecall (sideOf (start .mode) between .recall) start))
   unfolding finished shown
   recall-restored some =
-      let restores = recall-restores size quarter way place start (deleted .did) (deleted .plain) (sound s b Delete way place o promise accepts)
+      let restores = recall-restores size quarter way place start (deleted .did) (deleted .plain) (sound s (Function Delete way place) b o promise accepts)
       (subst (λ r. 1 ≤ r .steps) (deleted .report) some) in
-      let said = ap₂ (λ t p. key t quarter Recall p) (same-size s b Delete way place o promise accepts) (deleted .holds) ∙ restores in
+      let said = ap₂ (λ t p. key t quarter Recall p) same-length (deleted .holds) ∙ restores in
       let fit = deleted .follows .fit in
       let ok = deleted .follows .ok in (
         ap (λ o. o .answer .code) (recalls ∙ (session-keyed (o .session) Recall (o .lent) fit ok ∙ ap (finished (o .session) (o .lent)) said)),
         key-holds (o .session) Recall (o .lent) next recalls fit ok
-            ∙ (ap (after between) said ∙ ap (λ p. withRecall (sideOf (start .mode) p .recall) start) (sym (deleted .holds))),
+            ∙ (ap (after between) said ∙ ap (λ p. withMark (recallPutIn p .mark) (withRecall (sideOf (start .mode) p .recall) start)) (sym (deleted .holds))),
       )
 
   -- ---- A deletion with the bell: RECALL puts the recall text in as it was before the deletion, or is refused as FULL
@@ -95,19 +107,19 @@ module _ (s : Session) (b : Lent) (way : Direction) (place : Place) (o : Called)
     same-finished = ap (pressed Recall) (bell-holds s b Delete way place o promise accepts bell) ∙ recall-does start
 
     same-exceeding : Exceeds (T (o .lent .stores)) quarter (pressed Recall between .state) ≡ Exceeds size quarter (recallPutIn start)
-    same-exceeding = ap₂ (λ t d. Exceeds t quarter (d .state)) (same-size s b Delete way place o promise accepts) same-finished
+    same-exceeding = ap₂ (λ t d. Exceeds t quarter (d .state)) same-length same-finished
 
     -- Refused exactly when the finished text would not fit, else accepted.
     pub older-full : (next .answer .code ≡ FULL) ↔ Exceeds size quarter (recallPutIn start)
     older-full = (
       λ e. transport same-exceeding (does .full .0 e .2),
-      λ over. does .full .1 (deleted .follows, recall-sound, transport (sym same-exceeding) over),
+      λ over. does .full .1 (deleted .follows, recall-sound (between .mode), transport (sym same-exceeding) over),
     )
 
     pub older-accepted : (next .answer .code ≡ 0) ↔ (¬ Exceeds size quarter (recallPutIn start))
     older-accepted = (
       λ e over. does .accepted .0 e .2 (transport (sym same-exceeding) over),
-      λ short. does .accepted .1 (deleted .follows, recall-sound, λ over. short (transport same-exceeding over)),
+      λ short. does .accepted .1 (deleted .follows, recall-sound (between .mode), λ over. short (transport same-exceeding over)),
     )
 
     pub older-put-in : next .answer .code ≡ 0 → held (next .session) (next .lent .stores) ≡ recallPutIn start

@@ -115,7 +115,7 @@ module _ (n H W : ℕ) (b : Lent) where
   unfolding opened choice
   opening-done e = accepts (tabled H W b) (leb n (T (b .stores))) (badByte n (b .stores .text)) e
 
-  -- A refused opening returns a record of zeros in mode MAIN and leaves all four stores; steps, bell, rows and cursor are 0.
+  -- A refused opening returns a record of zeros in mode MAIN with no mark and leaves all five stores; steps, bell, rows and cursor are 0.
   leaves : (t u : Bool) (s : Search) → (choice t u s .answer .code ≡ 0 → ⊥)
       → choice t u s ≡ unopened b (choice t u s .answer .code) (choice t u s .answer .place)
   unfolding choice openedText
@@ -182,18 +182,20 @@ module _ (s : Session) (k : Key) (b : Lent) where
   key-session = rw key-code (exactly (check SIZE _ ∷ []) SESSION _ _ refl refl)
 
   pub key-key : (keyed s k b .answer .code ≡ KEY)
-      ↔ (Passing (check SIZE (tabled (s .frame .h) (s .frame .w) b) ∷ check SESSION (isSession s (b .stores)) ∷ []) × (soundKey k ≡ false))
+      ↔ (Passing (check SIZE (tabled (s .frame .h) (s .frame .w) b) ∷ check SESSION (isSession s (b .stores)) ∷ [])
+      × (soundKey (held s (b .stores) .mode) k ≡ false))
   key-key = rw key-code (exactly (check SIZE _ ∷ check SESSION _ ∷ []) KEY _ _ refl refl)
 
   pub key-full : (keyed s k b .answer .code ≡ FULL)
-      ↔ (Passing (check SIZE (tabled (s .frame .h) (s .frame .w) b) ∷ check SESSION (isSession s (b .stores)) ∷ check KEY (soundKey k) ∷ [])
+      ↔ (Passing
+      (check SIZE (tabled (s .frame .h) (s .frame .w) b) ∷ check SESSION (isSession s (b .stores)) ∷ check KEY (soundKey (held s (b .stores) .mode) k) ∷ [])
       × (fits (T (b .stores)) quarter (pressed k (held s (b .stores)) .state) ≡ false))
   key-full = rw key-code (exactly (check SIZE _ ∷ check SESSION _ ∷ check KEY _ ∷ []) FULL _ _ refl refl)
 
   pub key-accepted : (keyed s k b .answer .code ≡ 0) ↔ Passing (keyChecks s k b)
   key-accepted = rw key-code (accepted-exactly (keyChecks s k b) refl)
 
-  -- A refused key returns the record it was given and leaves all four stores; place, steps, bell, rows and cursor are 0.
+  -- A refused key returns the record it was given and leaves all five stores; place, steps, bell, rows and cursor are 0.
   decision-leaves : (t u v w : Bool) (did : Did Plain) → (decision t u v w did .answer .code ≡ 0 → ⊥)
       → decision t u v w did ≡ turnedDown s b (decision t u v w did .answer .code)
   unfolding decision finished shown
@@ -206,5 +208,7 @@ module _ (s : Session) (k : Key) (b : Lent) where
   pub key-leaves : (keyed s k b .answer .code ≡ 0 → ⊥) → keyed s k b ≡ turnedDown s b (keyed s k b .answer .code)
   unfolding keyed key bounded decision
   key-leaves bad =
-      let did = pressed k (held s (b .stores)) in
-      decision-leaves (tabled (s .frame .h) (s .frame .w) b) (isSession s (b .stores)) (soundKey k) (fits (T (b .stores)) quarter (did .state)) did bad
+      let p = held s (b .stores) in
+      let did = pressed k p in
+      decision-leaves (tabled (s .frame .h) (s .frame .w) b) (isSession s (b .stores)) (soundKey (p .mode) k)
+      (fits (T (b .stores)) quarter (did .state)) did bad

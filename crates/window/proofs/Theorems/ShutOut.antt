@@ -16,7 +16,8 @@ use Rattle.gap.proofs.Laws.Sequence.{same-equal}
 use Rattle.editor.specs.Rules.Passages.{withLines, passageTo}
 use Rattle.editor.specs.Rules.Places.{lineBeginning, word, isAt}
 use Rattle.editor.specs.Rules.Plain.{quiet, reporting}
-use Rattle.editor.specs.Rules.Keys.{soundKey, inserted, carried, function, onSide, pressed, fits, bounded, key, Unsound}
+use Rattle.editor.specs.Rules.Marks.{markThrough}
+use Rattle.editor.specs.Rules.Keys.{soundKey, inserted, carried, function, onSide, acted, changeOf, pressed, fits, bounded, key, Unsound}
 use Rattle.editor.specs.Rules.Bytes.{quarter, sized, plainOf, lengthsOf, storesOf, editorOk}
 use Rattle.window.specs.Words.{Direction, Action, Place, Session, Answer, Key, Insert, Function}
 use Rattle.window.specs.Rules.Window.{virtualIn, rowCells, joined, window, visible, policy}
@@ -47,9 +48,9 @@ computed =
 
 numbers : sameBytes computed (0 ∷ 1 ∷ 5 ∷ 3 ∷ 4 ∷ 0 ∷ []) ≡ true
 unfolding computed p0 p1 p2 every sameBytes part zeros counted bytes move times nearest distance passed withLines passageTo newlines
-    sinceAfter lines gapped paired ungap unpair soundGap soundPair lineBeginning word isAt soundKey carried function onSide pressed fits
-    bounded key quarter sized plainOf lengthsOf storesOf editorOk virtualIn rowCells joined window visible policy firstRow lastRow tabled
-    isSession openedText opened shown finished keyed markedAfter pressing moving outcome
+    sinceAfter lines gapped paired ungap unpair soundGap soundPair lineBeginning word isAt soundKey carried function onSide acted changeOf
+    markThrough pressed fits bounded key quarter sized plainOf lengthsOf storesOf editorOk virtualIn rowCells joined window visible policy
+    firstRow lastRow tabled isSession openedText opened shown finished keyed markedAfter pressing moving outcome
 numbers = refl
 
 fact : (i : ℕ) → getD computed i 0 ≡ getD (0 ∷ 1 ∷ 5 ∷ 3 ∷ 4 ∷ 0 ∷ []) i 0
@@ -81,7 +82,7 @@ p1-unnamed = fact 5
 
 -- Stores for two bytes and a screen of two cells: an empty text is opened.
 blank : Lent
-blank = record { stores = record { text = zeros 2; recall = zeros 2; side = zeros (4 * quarter) }; screen = zeros 2 }
+blank = record { stores = record { text = zeros 2; recall = zeros 2; held = zeros 2; side = zeros (4 * quarter) }; screen = zeros 2 }
 
 blank-opens : opened 0 1 2 blank .answer .code ≡ 0
 unfolding blank zeros nearest quarter sized tabled openedText opened
@@ -153,8 +154,9 @@ plainly = picture (viewed (T (blank .stores)) (Insert 97 ∷ Insert 98 ∷ []) (
 
 shown-cells : (sameBytes (two .terminal) (97 ∷ 32 ∷ []) && sameBytes plainly (97 ∷ 98 ∷ [])) ≡ true
 unfolding blank begun one two every sameBytes part zeros counted splice nearest newlines sinceAfter lines gapped paired ungap unpair
-    soundGap soundPair soundKey inserted onSide pressed fits bounded key quarter sized plainOf lengthsOf storesOf editorOk virtualIn rowCells
-    joined window visible policy firstRow lastRow tabled isSession openedText opened shown finished keyed repaint viewed
+    soundGap soundPair soundKey inserted onSide acted changeOf markThrough pressed fits bounded key quarter sized plainOf lengthsOf storesOf
+    editorOk virtualIn rowCells joined window visible policy firstRow lastRow tabled isSession openedText opened shown finished keyed
+    repaint viewed
 shown-cells = refl
 
 pub editing-once-out : ¬ ((n : ℕ) → PressesWell (editingOnce n))
@@ -200,8 +202,9 @@ inventing-out steps well =
 
 -- Whatever they are made up from, where they keep the promise they are the distance.
 pub invented-distance : (steps : Session → Key → Lent → ℕ) → PressesWell (inventing steps) → (s : Session) (b : Lent) → OnSession s b
-    → (action : Action) (way : Direction) (place : Place) → ¬ Unsound (Function action way place) → let p = held s (b .stores) in
-    (n : ℕ) → LeastMoves way (isAt place way) (textIn (p .mode) p) n → steps s (Function action way place) b ≡ n
+    → let p = held s (b .stores) in
+    (action : Action) (way : Direction) (place : Place) → ¬ Unsound (p .mode) (Function action way place)
+    → (n : ℕ) → LeastMoves way (isAt place way) (textIn (p .mode) p) n → steps s (Function action way place) b ≡ n
 invented-distance steps well s b on action way place good n least =
     let k = Function action way place in
     ap (λ report. report .steps) (steps-moved s b on (inventing steps s k b) action way place (well s k b) good .steps n .1 least .1)

@@ -11,11 +11,12 @@ use Rattle.editor.specs.Rules.Bytes.{quarter, sized}
 use Rattle.editor.proofs.Laws.Session.{measured, measured-sized}
 use Rattle.window.specs.Rules.Core.{Lent, rowsAndColumns, tabled}
 
--- 01, table of stores.
+-- 01, table of stores. 02, M-101: the store of the held text.
 pub record AsTabled (H W : ℕ) (b : Lent) : Type 0 where
   pub text-from : 1 ≤ length (b .stores .text)
   pub text-to : length (b .stores .text) ≤ 65536
   pub recall : length (b .stores .recall) ≡ length (b .stores .text)
+  pub held : length (b .stores .held) ≡ length (b .stores .text)
   pub side : length (b .stores .side) ≡ 1024
   pub rows-from : 1 ≤ H
   pub rows-to : H ≤ 64
@@ -36,6 +37,7 @@ tabled-exactly H W b = (
         text-from = stores .low;
         text-to = stores .high;
         recall = stores .recall;
+        held = stores .held;
         side = stores .side;
         rows-from = leb-true 1 H (and-left (leb 1 H) _ rows);
         rows-to = leb-true H 64 (and-right (leb 1 H) _ rows);
@@ -45,7 +47,7 @@ tabled-exactly H W b = (
       },
   λ t.
       and-both
-      (measured-sized 256 (b .stores) (record { low = t .text-from; high = t .text-to; recall = t .recall; side = t .side }))
+      (measured-sized 256 (b .stores) (record { low = t .text-from; high = t .text-to; recall = t .recall; held = t .held; side = t .side }))
       (and-both
       (and-both
       (and-both (le-leb 1 H (t .rows-from)) (le-leb H 64 (t .rows-to)))

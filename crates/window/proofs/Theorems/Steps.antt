@@ -9,13 +9,14 @@ use Rattle.editor.specs.Rules.Refusals.{FULL}
 use Rattle.editor.specs.Rules.Places.{isAt}
 use Rattle.editor.specs.Rules.Passages.{linesPassed, passageTo}
 use Rattle.editor.specs.Rules.Plain.{Plain, quiet, rang, refused}
-use Rattle.editor.specs.Rules.Keys.{soundKey, inserted, function, recalled, sideOf, onSide, quoted, withPattern, matches, searched, found}
-use Rattle.editor.specs.Rules.Keys.{replaced, pressed, key, after, Unsound}
-use Rattle.editor.specs.Rules.Bytes.{quarter, SoundPlain}
+use Rattle.editor.specs.Rules.Keys.{soundKey, inserted, function, recalled, sideOf, withSide, onSide, quoted, withPattern, matches, searched, found}
+use Rattle.editor.specs.Rules.Keys.{replaced, markedHere, pasted, acted, pressed, key, after, Unsound}
+use Rattle.editor.specs.Rules.Bytes.{quarter, SoundTexts}
 use Rattle.editor.proofs.Laws.States.{side-with, same-document}
+use Rattle.editor.proofs.Laws.MarkedStates.{side-marked}
 use Rattle.editor.proofs.Theorems.LinesCrossed.{lines-within}
 use Rattle.editor.proofs.Theorems.Refusals.{key-unsound, refused-full, function-never-full, find-never-full}
-use Rattle.window.specs.Words.{Direction, Action, Move, Place, Main, Session, Key, Insert, Function, Recall, Quote, Find, Replace}
+use Rattle.window.specs.Words.{Direction, Action, Move, Place, Mode, Main, Session, Key, Insert, Function, Recall, Quote, Find, Replace, Mark, Paste}
 use Rattle.window.specs.Rules.Window.{rowOf, virtual}
 use Rattle.window.specs.Rules.Core.{Lent, T, held, shown, finished, keyed}
 use Rattle.window.specs.Wording.Demands.{OnSession, StepsTo, textIn, patternIn, singly, Crosses, RowsApart}
@@ -25,19 +26,19 @@ use Rattle.window.proofs.Laws.Reports.{mode-with, pattern-mode, reporte
 use Rattle.window.proofs.Theorems.Sessions.{key-follows}
 use Rattle.window.proofs.Theorems.KeyDoes.{key-plain, key-outcome, keyed-does}
 
-find-sound : (way : Direction) → ¬ Unsound (Find way)
+find-sound : (mode : Mode) (way : Direction) → ¬ Unsound mode (Find way)
 unfolding soundKey
-find-sound way bad = clash refl (key-unsound (Find way) .1 bad)
+find-sound mode way bad = clash refl (key-unsound mode (Find way) .1 bad)
 
 module _ (s : Session) (b : Lent) (on : OnSession s b) where
   abbrev state : Plain
   state = held s (b .stores)
 
-  sound : SoundPlain (T (b .stores)) quarter state
-  sound = session-view s b (on .fit) (on .ok) .good .sound
+  sound : SoundTexts (T (b .stores)) quarter state
+  sound = session-view s b (on .fit) (on .ok) .good .sound .texts
 
   -- A key that is neither unsound nor full is accepted, and reports and leaves what the plain editor does.
-  short-accepted : (k : Key) → ¬ Unsound k → ¬ (key (T (b .stores)) quarter k state ≡ refused FULL) → keyed s k b .answer .code ≡ 0
+  short-accepted : (k : Key) → ¬ Unsound (state .mode) k → ¬ (key (T (b .stores)) quarter k state ≡ refused FULL) → keyed s k b .answer .code ≡ 0
   short-accepted k good short =
       keyed-does s k b .accepted .1 (on, good, λ long. short (refused-full (T (b .stores)) quarter k state .1 (good, long)))
 
@@ -50,7 +51,7 @@ module _ (s : Session) (b : Lent) (on : OnSession s b) where
     key-leads = key-follows s k b (on .fit) (on .ok) .holds ∙ ap (after state) (key-plain s k b accepts)
 
   -- A move or deletion, of the document in MAIN and of the quotation in QUOTED, that is not one of the two that get KEY.
-  module _ (action : Action) (way : Direction) (place : Place) (good : ¬ Unsound (Function action way place)) where
+  module _ (action : Action) (way : Direction) (place : Place) (good : ¬ Unsound (state .mode) (Function action way place)) where
     abbrev function-key : Key
     function-key = Function action way place
 
@@ -58,7 +59,7 @@ module _ (s : Session) (b : Lent) (on : OnSession s b) where
     function-accepted = short-accepted function-key good (function-never-full (T (b .stores)) quarter state sound action way place)
 
     function-told : keyed s function-key b .answer .report ≡ told (passageTo way (isAt place way) (textIn (state .mode) state))
-    unfolding pressed onSide function
+    unfolding pressed acted onSide function
     function-told =
         key-reports function-key function-accepted
         ∙ carried-told action way _ (sideOf (state .mode) state)
@@ -71,11 +72,12 @@ module _ (s : Session) (b : Lent) (on : OnSession s b) where
     -- And the text that it leaves is that many single steps away.
     pub function-text : let o = keyed s (Function action way place) b in
         textIn (state .mode) (held (o .session) (o .lent .stores)) ≡ times (singly action way) (o .answer .report .steps) (textIn (state .mode) state)
-    unfolding pressed onSide function
+    unfolding pressed acted onSide function
     function-text =
         let side = sideOf (state .mode) state in
         ap (textIn (state .mode)) (key-leads function-key function-accepted)
         ∙ sym (side-text (state .mode) _)
+        ∙ ap (λ t. t .text) (side-marked (state .mode) _ (withSide (state .mode) (function action way place side .state) state))
         ∙ ap (λ t. t .text) (side-with (state .mode) (function action way place side .state) state)
         ∙ carried-text action way _ side
         ∙ ap₂ (times (singly action way)) (ap (λ r. r .steps) (sym (key-reports function-key function-accepted))) (side-text (state .mode) state)
@@ -100,7 +102,7 @@ module _ (s : Session) (b : Lent) (on : OnSession s b) where
 
     -- In MAIN the cursor's row changes by so many, up or down.
     kept-mode : held (keyed s function-key b .session) (keyed s function-key b .lent .stores) .mode ≡ state .mode
-    unfolding pressed onSide
+    unfolding pressed acted onSide
     kept-mode =
         ap (λ p. p .mode) (key-leads function-key function-accepted)
         ∙ mode-with (state .mode) (function action way place (sideOf (state .mode) state) .state) state
@@ -123,10 +125,10 @@ module _ (s : Session) (b : Lent) (on : OnSession s b) where
   -- FIND and UPFIND, in QUOTED with the quotation as the new pattern: the distance is to the nearest match in the document.
   module _ (way : Direction) where
     pub find-accepted : keyed s (Find way) b .answer .code ≡ 0
-    find-accepted = short-accepted (Find way) (find-sound way) (find-never-full (T (b .stores)) quarter state sound way)
+    find-accepted = short-accepted (Find way) (find-sound (state .mode) way) (find-never-full (T (b .stores)) quarter state sound way)
 
     find-told : keyed s (Find way) b .answer .report ≡ told (passageTo way (matches (patternIn (state .mode) state)) (state .main .text))
-    unfolding pressed found searched
+    unfolding pressed acted found searched
     find-told =
         key-reports (Find way) find-accepted
         ∙ carried-told Move way _ (withPattern (state .mode) state .main)
@@ -137,7 +139,7 @@ module _ (s : Session) (b : Lent) (on : OnSession s b) where
 
     pub find-text : let o = keyed s (Find way) b in
         held (o .session) (o .lent .stores) .main .text ≡ times (move way) (o .answer .report .steps) (state .main .text)
-    unfolding pressed found searched
+    unfolding pressed acted found searched
     find-text =
         let side = withPattern (state .mode) state .main in
         ap (λ p. p .main .text) (key-leads (Find way) find-accepted)
@@ -162,7 +164,7 @@ module _ (s : Session) (b : Lent) (on : OnSession s b) where
 
     -- After a search the mode is MAIN; from MAIN on the rows are so many apart.
     found-mode : held (keyed s (Find way) b .session) (keyed s (Find way) b .lent .stores) .mode ≡ Main
-    unfolding pressed found searched
+    unfolding pressed acted found searched
     found-mode = ap (λ p. p .mode) (key-leads (Find way) find-accepted) ∙ pattern-mode (state .mode) state refl
 
     pub find-rows : let o = keyed s (Find way) b in state .mode ≡ Main
@@ -176,21 +178,29 @@ module _ (s : Session) (b : Lent) (on : OnSession s b) where
         (subst⁻¹ (λ row. RowsApart Move way (rowOf d) row (report .lines)) (main-row later found-mode ∙ ap rowOf find-text)
         (subst⁻¹ (RowsApart Move way (rowOf d) (rowOf (times (move way) (report .steps) d))) find-counted (steps-apart Move way (report .steps) d)))
 
-  -- INSERT, RECALL and QUOTE report 0 steps, 0 lines and no bell, and so does REPLACE at a match. Elsewhere REPLACE reports 0 steps, 0 lines
+  -- INSERT, RECALL, QUOTE, MARK and PASTE report 0 steps, 0 lines and no bell, and so does REPLACE at a match. Elsewhere REPLACE reports 0 steps, 0 lines
   -- and the bell.
   pub insert-quiet : (byte : ℕ) → keyed s (Insert byte) b .answer .code ≡ 0 → keyed s (Insert byte) b .answer .report ≡ quiet
-  unfolding pressed onSide inserted
+  unfolding pressed acted onSide inserted
   insert-quiet byte accepts = key-reports (Insert byte) accepts
 
   pub recall-quiet : keyed s Recall b .answer .code ≡ 0 → keyed s Recall b .answer .report ≡ quiet
-  unfolding pressed onSide recalled
+  unfolding pressed acted onSide recalled
   recall-quiet accepts = key-reports Recall accepts
 
   pub quote-quiet : keyed s Quote b .answer .code ≡ 0 → keyed s Quote b .answer .report ≡ quiet
-  unfolding pressed quoted
+  unfolding pressed acted quoted
   quote-quiet accepts = key-reports Quote accepts
+
+  pub mark-quiet : keyed s Mark b .answer .code ≡ 0 → keyed s Mark b .answer .report ≡ quiet
+  unfolding pressed acted markedHere
+  mark-quiet accepts = key-reports Mark accepts
+
+  pub paste-quiet : keyed s Paste b .answer .code ≡ 0 → keyed s Paste b .answer .report ≡ quiet
+  unfolding pressed acted pasted recalled
+  paste-quiet accepts = key-reports Paste accepts
 
   pub replace-reports : keyed s Replace b .answer .code ≡ 0
       → keyed s Replace b .answer .report ≡ cond (matches (state .pattern) (state .main .text)) quiet rang
-  unfolding pressed replaced
+  unfolding pressed acted replaced
   replace-reports accepts = key-reports Replace accepts ∙ replaced-told (state .mode) state

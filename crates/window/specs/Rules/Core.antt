@@ -1,4 +1,4 @@
--- The core: opening and the key call as total functions on any record and any four stores.
+-- The core: opening and the key call as total functions on any record and any five stores.
 use Rattle.gap.specs.Rules.Checks.{check, unless}
 use Rattle.window.specs.Words.{List, [], _∷_, Bool, not, _&&_, ℕ, _-_, _*_, eqb, leb, length, take, getD}
 use Rattle.window.specs.Words.{Key, Search, Reached, Nowhere, Report, Frame, Session, Answer}
@@ -14,12 +14,12 @@ use Rattle.window.specs.Rules.Rows.{firstRow, lastRow}
 
 -- ---- What goes in and comes out
 
--- The four lent stores: the editor's three, and the screen.
+-- The five lent stores: the editor's four, and the screen. (01, table of stores. 02, M-101: the fifth.)
 pub record Lent : Type 0 where
   pub stores : Stores
   pub screen : List ℕ
 
--- All that a call determines: the answer, the record handed back, and the bytes of the four stores.
+-- All that a call determines: the answer, the record handed back, and the bytes of the five stores.
 pub record Called : Type 0 where
   pub answer : Answer
   pub session : Session
@@ -31,7 +31,7 @@ T b = length (b .text)
 
 -- ---- Sizes and sessions
 
--- 01, table of stores: H, W and the length of the screen; the other three stores are the editor's to judge.
+-- 01, table of stores: H, W and the length of the screen; the other four stores are the editor's to judge.
 abbrev pub rowsAndColumns : ℕ → ℕ → Bool
 rowsAndColumns H W = (leb 1 H && leb H 64) && (leb 1 W && leb W 256)
 
@@ -75,7 +75,7 @@ lentOf T p f = record { stores = storesOf T quarter p; screen = window f (virtua
 
 -- ---- Opening
 
--- Refused, it gives a record of zeros, and the stores as they were. (01, refusals: refused opening. DECISIONS B25.)
+-- Refused, it gives a record of zeros with no mark, and the stores as they were. (01, refusals: refused opening. DECISIONS B25, C15.)
 abbrev pub zeroRecord : Session
 zeroRecord = record { lengths = openingLengths 0; frame = record { r = 0; c = 0; h = 0; w = 0 } }
 

@@ -1,8 +1,8 @@
 -- The host's boundary: record, key and answer as numbers. (DECISIONS D1 to D4.)
-use Rattle.window.specs.Words.{Bool, true, _&&_, _||_, cond, ℕ, eqb, leb}
+use Rattle.window.specs.Words.{Bool, true, _&&_, _||_, cond, ℕ, eqb, leb, Marking, Unmarked, At}
 use Rattle.window.specs.Words.{Left, Right, Direction, Action, Move, Delete, Mode, Main, Quoted}
 use Rattle.window.specs.Words.{Place, Character, Word, LineBeginning, LineEnding, Document}
-use Rattle.window.specs.Words.{Session, Answer, Key, Insert, Function, Recall, Quote, Find, Replace}
+use Rattle.window.specs.Words.{Session, Answer, Key, Insert, Function, Recall, Quote, Find, Replace, Mark, Cut, Paste}
 use Rattle.editor.specs.Rules.Refusals.{SIZE, SESSION}
 use Rattle.editor.specs.Rules.Plain.{Plain}
 use Rattle.editor.specs.Rules.Bytes.{Stores}
@@ -23,6 +23,18 @@ abbrev pub modeNumber : Mode → ℕ
 modeNumber Main = 0
 modeNumber Quoted = 1
 
+-- No mark is the largest size, 2^64 - 1; any other number is a position. One beyond the document is then no session. (02, M-101: the mark in the
+-- record.)
+unfoldable pub noMark : ℕ
+noMark = 18446744073709551615
+
+abbrev pub markFrom : ℕ → Marking
+markFrom m = cond (eqb m noMark) Unmarked (At m)
+
+abbrev pub markNumber : Marking → ℕ
+markNumber Unmarked = noMark
+markNumber (At m) = m
+
 -- The record as the core has it, and back.
 abbrev pub sessionFrom : Record → Session
 sessionFrom n =
@@ -35,6 +47,9 @@ sessionFrom n =
             xr = n .xr;
             pl = n .pl;
             mode = modeOf (n .mode);
+            hl = n .hl;
+            hr = n .hr;
+            mark = markFrom (n .mark);
           };
       frame = record { r = n .top; c = n .left; h = n .rows; w = n .columns };
     }
@@ -58,6 +73,9 @@ recordFrom s =
       left = s .frame .c;
       rows = s .frame .h;
       columns = s .frame .w;
+      hl = s .lengths .hl;
+      hr = s .lengths .hr;
+      mark = markNumber (s .lengths .mark);
     }
 
 -- Record and stores are a session: the mode is one, and the core's record is a session. What they hold is what it holds.
@@ -100,7 +118,10 @@ keyFrom kind a b c =
     (cond (eqb kind 2) Recall
     (cond (eqb kind 3) Quote
     (cond (eqb kind 4) (findFrom a)
-    (cond (eqb kind 5) Replace none)))))
+    (cond (eqb kind 5) Replace
+    (cond (eqb kind 6) Mark
+    (cond (eqb kind 7) Cut
+    (cond (eqb kind 8) Paste none))))))))
 
 -- The four numbers as one value.
 pub record KeyNumbers : Type 0 where
@@ -116,12 +137,12 @@ abbrev pub keyOf : KeyNumbers → Key
 keyOf x = keyFrom (x .kind) (x .a) (x .b) (x .c)
 
 -- Which numbers name a key: an insert's byte is at most 255; a function key's numbers are at most 1, 1 and 4; a search's is at most 1;
--- and there is no kind above 5.
+-- and there is no kind above 8.
 abbrev pub names : KeyNumbers → Bool
 names x =
     cond (eqb (x .kind) 0) (leb (x .a) 255)
     (cond (eqb (x .kind) 1) (leb (x .a) 1 && (leb (x .b) 1 && leb (x .c) 4))
-    (cond (eqb (x .kind) 4) (leb (x .a) 1) (leb (x .kind) 5)))
+    (cond (eqb (x .kind) 4) (leb (x .a) 1) (leb (x .kind) 8)))
 
 -- Those that are looked at: all of a function key's, the first of an insert's and of a search's, else the kind alone.
 abbrev pub lookedAt : KeyNumbers → KeyNumbers
@@ -152,6 +173,9 @@ numbersOfKey Recall = numbers 2 0 0 0
 numbersOfKey Quote = numbers 3 0 0 0
 numbersOfKey (Find way) = numbers 4 (directionNumber way) 0 0
 numbersOfKey Replace = numbers 5 0 0 0
+numbersOfKey Mark = numbers 6 0 0 0
+numbersOfKey Cut = numbers 7 0 0 0
+numbersOfKey Paste = numbers 8 0 0 0
 
 -- A key that can be pressed: an insert is of a byte.
 abbrev pub ofByte : Key → Bool
@@ -161,6 +185,9 @@ ofByte Recall = true
 ofByte Quote = true
 ofByte (Find way) = true
 ofByte Replace = true
+ofByte Mark = true
+ofByte Cut = true
+ofByte Paste = true
 
 -- ---- The answer
 
@@ -212,10 +239,30 @@ givenOf o = record { said = saidOf (o .answer); back = recordFrom (o .session); 
 unfoldable pub hostOpened : ℕ → ℕ → ℕ → Lent → Given
 hostOpened n H W b = givenOf (opened n H W b)
 
--- A refused opening: a record of zeros, and the stores as they were.
+-- A refused opening: a record of zeros with no mark, and the stores as they were. (DECISIONS C15.)
 abbrev pub zeroNumbers : Record
 zeroNumbers =
-    record { l = 0; r = 0; ql = 0; qr = 0; rl = 0; rr = 0; qrl = 0; qrr = 0; xl = 0; xr = 0; pl = 0; mode = 0; top = 0; left = 0; rows = 0; columns = 0 }
+    record {
+      l = 0;
+      r = 0;
+      ql = 0;
+      qr = 0;
+      rl = 0;
+      rr = 0;
+      qrl = 0;
+      qrr = 0;
+      xl = 0;
+      xr = 0;
+      pl = 0;
+      mode = 0;
+      top = 0;
+      left = 0;
+      rows = 0;
+      columns = 0;
+      hl = 0;
+      hr = 0;
+      mark = noMark;
+    }
 
 abbrev pub hostUnopened : Lent → ℕ → ℕ → Given
 hostUnopened b code place = record { said = saidOf (refusal code place); back = zeroNumbers; lent = b }

@@ -22,7 +22,7 @@ abbrev pub keyChecks : Session → Key → Lent → List Check
 keyChecks s k b =
     check SIZE (tabled (s .frame .h) (s .frame .w) b)
     ∷ check SESSION (isSession s (b .stores))
-    ∷ check KEY (soundKey k)
+    ∷ check KEY (soundKey (held s (b .stores) .mode) k)
     ∷ finishedChecks (T (b .stores)) quarter (pressed k (held s (b .stores)) .state)
 
 -- The checks of a key at the host's boundary, in order: a mode that is none is no session, and numbers that name no key are no sound key.
@@ -30,7 +30,7 @@ abbrev pub hostKeyChecks : Record → KeyNumbers → Lent → List Check
 hostKeyChecks n x b =
     check SIZE (tabled (n .rows) (n .columns) b)
     ∷ check SESSION (isHostSession n (b .stores))
-    ∷ check KEY (names x && soundKey (keyOf x))
+    ∷ check KEY (names x && soundKey (hostHeld n (b .stores) .mode) (keyOf x))
     ∷ finishedChecks (T (b .stores)) quarter (pressed (keyOf x) (hostHeld n (b .stores)) .state)
 
 -- The checks of the routine for terminals, in order.

@@ -1,56 +1,57 @@
--- What document 01 says of opening, refusals and sessions, on records and stores of any kind.
-use mathlib.Core.List.{map}
+-- What document 01 and request M-101 say of opening, refusals and sessions, on records and stores of any kind.
 use Prim.Native.String.{String}
 use lib.ListN.{replicate}
-use Rattle.window.specs.Words.{List, [], _∷_, _++_, Bool, true, false, _&&_, ℕ, _-_, eqb, length, Right, Move, Character}
-use Rattle.window.specs.Words.{Key, Insert, Function, Recall, Quote, Mode, Main, Quoted, Sizes, Lengths, Session}
+use Rattle.window.specs.Words.{List, [], _∷_, _++_, Bool, false, _&&_, ℕ, _-_, eqb, length, Right, Move, Character}
+use Rattle.window.specs.Words.{Key, Insert, Function, Recall, Quote, Mark, Cut, Paste, Main, Quoted, Marking, Unmarked, At, Lengths, Session}
 use Rattle.gap.specs.Rules.Sequence.{sameBytes, zeros}
 use Rattle.gap.specs.Rules.Strings.{bytes}
 use Rattle.gap.specs.Tables.Sentence.{Sentence, sentence}
 use Rattle.gap.specs.Tables.Written.{stored, isBytes, isStore, sameBool}
-use Rattle.editor.specs.Tables.KeyExamples.{sameMode}
 use Rattle.editor.specs.Tables.SessionPins.{sizes, lengths, areLengths}
 use Rattle.window.specs.Rules.Core.{Lent, Called, opened, keyed}
 
 -- ---- Sizes
 
--- Four stores of zeros, and a record without any text.
-abbrev pub blank : ℕ → ℕ → ℕ → ℕ → Lent
-blank text recall side screen =
-    record { stores = record { text = zeros text; recall = zeros recall; side = zeros side }; screen = zeros screen }
+-- Five stores of zeros, and a record without any text.
+abbrev pub blank : ℕ → ℕ → ℕ → ℕ → ℕ → Lent
+blank text recall held side screen =
+    record { stores = record { text = zeros text; recall = zeros recall; held = zeros held; side = zeros side }; screen = zeros screen }
 
 abbrev pub recordIn : ℕ → ℕ → ℕ → ℕ → Lengths → Session
 recordIn r c H W n = record { lengths = n; frame = record { r = r; c = c; h = H; w = W } }
 
 abbrev pub nothing : Lengths
-nothing = lengths (sizes 0 0 0 0) (sizes 0 0 0 0) 0 0 0 Main
+nothing = lengths (sizes 0 0 0 0) (sizes 0 0 0 0) 0 0 0 Main 0 0 Unmarked
 
--- Opening and a key both answer this code: H and W, then the lengths of text, recall, side and screen.
-abbrev pub both : ℕ → ℕ → ℕ → ℕ → ℕ → ℕ → ℕ → Bool
-both H W text recall side screen code =
-    eqb (opened 0 H W (blank text recall side screen) .answer .code) code
-    && eqb (keyed (recordIn 0 0 H W nothing) Quote (blank text recall side screen) .answer .code) code
+-- Opening and a key both answer this code: H and W, then the lengths of text, recall, held, side and screen.
+abbrev pub both : ℕ → ℕ → ℕ → ℕ → ℕ → ℕ → ℕ → ℕ → Bool
+both H W text recall held side screen code =
+    eqb (opened 0 H W (blank text recall held side screen) .answer .code) code
+    && eqb (keyed (recordIn 0 0 H W nothing) Quote (blank text recall held side screen) .answer .code) code
 
 abbrev pub sizePins : List (Sentence Bool)
 sizePins =
-    sentence "text 1 byte at least; recall the same; side 1,024; screen H times W"
-    (both 2 3 4 4 1024 6 0
-    ∷ both 2 3 1 1 1024 6 0
-    ∷ both 2 3 0 0 1024 6 1
-    ∷ both 2 3 4 3 1024 6 1
-    ∷ both 2 3 4 5 1024 6 1
-    ∷ both 2 3 4 4 1023 6 1
-    ∷ both 2 3 4 4 1025 6 1
-    ∷ both 2 3 4 4 1024 5 1
-    ∷ both 2 3 4 4 1024 7 1
+    sentence "text 1 byte at least; recall and held the same; side 1,024; screen H times W"
+    (both 2 3 4 4 4 1024 6 0
+    ∷ both 2 3 1 1 1 1024 6 0
+    ∷ both 2 3 0 0 0 1024 6 1
+    ∷ both 2 3 4 3 4 1024 6 1
+    ∷ both 2 3 4 5 4 1024 6 1
+    ∷ both 2 3 4 4 3 1024 6 1
+    ∷ both 2 3 4 4 5 1024 6 1
+    ∷ both 2 3 4 4 0 1024 6 1
+    ∷ both 2 3 4 4 4 1023 6 1
+    ∷ both 2 3 4 4 4 1025 6 1
+    ∷ both 2 3 4 4 4 1024 5 1
+    ∷ both 2 3 4 4 4 1024 7 1
     ∷ [])
     ∷ sentence "H is 1 to 64, W is 1 to 256"
-    (both 0 3 4 4 1024 0 1
-    ∷ both 64 1 4 4 1024 64 0
-    ∷ both 65 1 4 4 1024 65 1
-    ∷ both 3 0 4 4 1024 0 1
-    ∷ both 1 256 4 4 1024 256 0
-    ∷ both 1 257 4 4 1024 257 1
+    (both 0 3 4 4 4 1024 0 1
+    ∷ both 64 1 4 4 4 1024 64 0
+    ∷ both 65 1 4 4 4 1024 65 1
+    ∷ both 3 0 4 4 4 1024 0 1
+    ∷ both 1 256 4 4 4 1024 256 0
+    ∷ both 1 257 4 4 4 1024 257 1
     ∷ [])
     ∷ []
 
@@ -60,7 +61,8 @@ sizePins =
 abbrev pub used : List ℕ → Lent
 used text =
     record {
-      stores = record { text = text; recall = replicate (length text) 120; side = replicate 1024 120 };
+      stores =
+          record { text = text; recall = replicate (length text) 120; held = replicate (length text) 120; side = replicate 1024 120 };
       screen = replicate 6 120;
     }
 
@@ -82,11 +84,12 @@ openingPins =
     ∷ [])
     ∷ sentence "opening checks SIZE, LONG, TEXT; the first that applies is given"
     (answers 1 0 (opened 4 0 3 (used (9 ∷ []))) ∷ answers 2 0 (opened 4 2 3 (used (9 ∷ []))) ∷ answers 1 0 (opened 1 0 3 (used (9 ∷ []))) ∷ [])
-    ∷ sentence "opening takes the first n bytes, puts the cursor at the beginning and empties everything else"
+    ∷ sentence "opening takes the first n bytes, puts the cursor at the beginning and empties everything else; it gives no mark"
     (isStore (openedUsed .lent .stores .text) "___ab\nc"
     ∷ isStore (openedUsed .lent .stores .recall) "_______"
+    ∷ isStore (openedUsed .lent .stores .held) "_______"
     ∷ sameBytes (openedUsed .lent .stores .side) (zeros 1024)
-    ∷ areLengths (openedUsed .session .lengths) (lengths (sizes 0 4 0 0) (sizes 0 0 0 0) 0 0 0 Main)
+    ∷ areLengths (openedUsed .session .lengths) (lengths (sizes 0 4 0 0) (sizes 0 0 0 0) 0 0 0 Main 0 0 Unmarked)
     ∷ [])
     ∷ sentence "it sets r = c = 0, paints the screen and names rows 1 to H"
     (sameBytes (openedUsed .session .frame .r ∷ openedUsed .session .frame .c ∷ openedUsed .session .frame .h ∷ openedUsed .session .frame .w ∷ [])
@@ -107,10 +110,13 @@ abbrev pub linesText : List ℕ
 linesText = stored "x\nab__c\ny"
 
 abbrev pub linesIn : ℕ → ℕ → Session
-linesIn r c = recordIn r c 2 3 (lengths (sizes 4 3 0 0) (sizes 0 0 0 0) 0 0 0 Main)
+linesIn r c = recordIn r c 2 3 (lengths (sizes 4 3 0 0) (sizes 0 0 0 0) 0 0 0 Main 0 0 Unmarked)
+
+abbrev pub linesHolding : List ℕ → List ℕ → Lent
+linesHolding held screen = record { stores = record { text = linesText; recall = zeros 9; held = held; side = zeros 1024 }; screen = screen }
 
 abbrev pub linesLent : List ℕ → Lent
-linesLent screen = record { stores = record { text = linesText; recall = zeros 9; side = zeros 1024 }; screen = screen }
+linesLent screen = linesHolding (zeros 9) screen
 
 -- A key that changes nothing of the text: where the cursor is visible it is accepted.
 abbrev pub sees : ℕ → ℕ → ℕ → Bool
@@ -123,17 +129,23 @@ namesRows screen first last =
 
 -- A quotation of so many letters in QUOTED, with a recall text of as many.
 abbrev pub quotedIn : ℕ → Session
-quotedIn n = recordIn 0 0 2 256 (lengths (sizes 0 0 0 0) (sizes 0 n 0 0) 0 0 0 Quoted)
+quotedIn n = recordIn 0 0 2 256 (lengths (sizes 0 0 0 0) (sizes 0 n 0 0) 0 0 0 Quoted 0 0 (At 0))
 
 abbrev pub quotedLent : ℕ → Lent
 quotedLent n =
     record {
-      stores = record { text = zeros 1; recall = zeros 1; side = zeros (256 - n) ++ (replicate n 97 ++ zeros 768) };
+      stores = record { text = zeros 1; recall = zeros 1; held = zeros 1; side = zeros (256 - n) ++ (replicate n 97 ++ zeros 768) };
       screen = zeros 512;
     }
 
 abbrev pub quotes : ℕ → Key → ℕ → Bool
 quotes n k code = answers code 0 (keyed (quotedIn n) k (quotedLent n))
+
+-- The same text with a held pair of so many bytes and a mark: RECALL changes nothing of it where it is accepted.
+abbrev pub holds : String → ℕ → ℕ → Marking → ℕ → Bool
+holds held hl hr mark code =
+    answers code 0
+    (keyed (recordIn 0 0 2 3 (lengths (sizes 4 3 0 0) (sizes 0 0 0 0) 0 0 0 Main hl hr mark)) Recall (linesHolding (stored held) (zeros 6)))
 
 abbrev pub callPins : List (Sentence Bool)
 callPins =
@@ -154,11 +166,23 @@ callPins =
     ∷ answers 5 0 (keyed (linesIn 0 0) (Insert 9) (linesLent (zeros 6)))
     ∷ [])
     ∷ sentence "SESSION: each part of the record and of the stores is looked at"
-    (answers 4 0 (keyed (recordIn 0 0 2 3 (lengths (sizes 4 3 0 0) (sizes 0 0 0 0) 0 0 1 Main)) Recall (linesLent (zeros 6)))
-    ∷ answers 4 0 (keyed (recordIn 0 0 2 3 (lengths (sizes 4 2 0 0) (sizes 0 0 0 0) 0 0 0 Main)) Recall (linesLent (zeros 6)))
+    (answers 4 0 (keyed (recordIn 0 0 2 3 (lengths (sizes 4 3 0 0) (sizes 0 0 0 0) 0 0 1 Main 0 0 Unmarked)) Recall (linesLent (zeros 6)))
+    ∷ answers 4 0 (keyed (recordIn 0 0 2 3 (lengths (sizes 4 2 0 0) (sizes 0 0 0 0) 0 0 0 Main 0 0 Unmarked)) Recall (linesLent (zeros 6)))
+    ∷ [])
+    ∷ sentence "a session needs the mark within the document, its end included, and the held pair under the recall pair's rule; else SESSION"
+    (holds "_________" 0 0 (At 0) 0
+    ∷ holds "_________" 0 0 (At 7) 0
+    ∷ holds "_________" 0 0 (At 8) 4
+    ∷ holds "ab_______" 2 0 Unmarked 0
+    ∷ holds "ab_______" 0 2 (At 3) 0
+    ∷ holds "ab_______" 1 1 Unmarked 4
+    ∷ holds "ab_______" 1 0 Unmarked 4
+    ∷ holds "abcdefghi" 10 0 Unmarked 4
+    ∷ holds "a\t_______" 2 0 Unmarked 4
     ∷ [])
     ∷ sentence "the named rows are those at which the lent screen differed, whatever it showed"
     (namesRows "x  abc" 0 0 ∷ namesRows "x. abc" 1 1 ∷ namesRows "x  .bc" 2 2 ∷ namesRows "x ..bc" 1 2 ∷ [])
     ∷ sentence "FULL: the quotation would exceed 256"
     (quotes 255 (Insert 98) 0 ∷ quotes 256 (Insert 98) 6 ∷ quotes 256 (Insert 9) 5 ∷ quotes 256 (Function Move Right Character) 0 ∷ [])
+    ∷ sentence "KEY for MARK, CUT and PASTE in QUOTED" (quotes 0 Mark 5 ∷ quotes 0 Cut 5 ∷ quotes 0 Paste 5 ∷ quotes 256 Paste 5 ∷ [])
     ∷ []

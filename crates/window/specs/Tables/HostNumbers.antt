@@ -3,7 +3,7 @@
 use Prim.Native.String.{String}
 use Rattle.window.specs.Words.{List, [], _∷_, _++_, map, cond, ℕ, _-_, _*_, eqb, length}
 use Rattle.window.specs.Words.{Left, Right, Move, Delete, Character, Word, LineBeginning, LineEnding, Document}
-use Rattle.window.specs.Words.{Key, Insert, Function, Recall, Quote, Find, Replace}
+use Rattle.window.specs.Words.{Key, Insert, Function, Recall, Quote, Find, Replace, Mark, Cut, Paste}
 use Rattle.gap.specs.Rules.Sequence.{zeros}
 use Rattle.gap.specs.Rules.Strings.{bytes}
 use Rattle.editor.specs.Rules.Bytes.{quarter}
@@ -54,21 +54,24 @@ keyRows =
     ∷ named 4 0 99 99 (Find Left)
     ∷ named 4 1 99 99 (Find Right)
     ∷ named 5 99 99 99 Replace
+    ∷ named 6 99 99 99 Mark
+    ∷ named 7 99 99 99 Cut
+    ∷ named 8 99 99 99 Paste
     ∷ []
 
 -- Numbers that name no key: one more than the largest of each kind, and of the kinds.
 abbrev pub noKeys : List KeyNumbers
-noKeys = numbers 0 256 0 0 ∷ numbers 1 2 0 0 ∷ numbers 1 0 2 0 ∷ numbers 1 0 0 5 ∷ numbers 4 2 0 0 ∷ numbers 6 0 0 0 ∷ []
+noKeys = numbers 0 256 0 0 ∷ numbers 1 2 0 0 ∷ numbers 1 0 2 0 ∷ numbers 1 0 0 5 ∷ numbers 4 2 0 0 ∷ numbers 9 0 0 0 ∷ []
 
 -- ---- Calls
 
--- The answer's nine numbers and the record's sixteen, in the order in which hosts have them.
+-- The answer's nine numbers and the record's nineteen, in the order in which hosts have them.
 abbrev pub said : ℕ → ℕ → ℕ → ℕ → ℕ → ℕ → ℕ → ℕ → ℕ → Said
 said code place steps lines bell first last row column =
     record { code = code; place = place; steps = steps; lines = lines; bell = bell; first = first; last = last; row = row; column = column }
 
-abbrev pub back : ℕ → ℕ → ℕ → ℕ → ℕ → ℕ → ℕ → ℕ → ℕ → ℕ → ℕ → ℕ → ℕ → ℕ → ℕ → ℕ → Record
-back l r ql qr rl rr qrl qrr xl xr pl mode top left rows columns =
+abbrev pub back : ℕ → ℕ → ℕ → ℕ → ℕ → ℕ → ℕ → ℕ → ℕ → ℕ → ℕ → ℕ → ℕ → ℕ → ℕ → ℕ → ℕ → ℕ → ℕ → Record
+back l r ql qr rl rr qrl qrr xl xr pl mode top left rows columns hl hr mark =
     record {
       l = l;
       r = r;
@@ -86,7 +89,14 @@ back l r ql qr rl rr qrl qrr xl xr pl mode top left rows columns =
       left = left;
       rows = rows;
       columns = columns;
+      hl = hl;
+      hr = hr;
+      mark = mark;
     }
+
+-- The number that is no mark.
+abbrev pub unmarked : ℕ
+unmarked = 18446744073709551615
 
 -- A text, in which `$` (36) is a newline and `^` (94) a byte 27, in a store of 40 bytes, and a screen of so many cells.
 abbrev pub written : String → List ℕ
@@ -95,7 +105,7 @@ written s = map (λ b. cond (eqb b 36) 10 (cond (eqb b 94) 27 b)) (bytes s)
 abbrev pub storesFor : List ℕ → ℕ → Lent
 storesFor text cells =
     record {
-      stores = record { text = text ++ zeros (40 - length text); recall = zeros 40; side = zeros (4 * quarter) };
+      stores = record { text = text ++ zeros (40 - length text); recall = zeros 40; held = zeros 40; side = zeros (4 * quarter) };
       screen = zeros cells;
     }
 
@@ -126,31 +136,44 @@ quoting s after = numbers 3 0 0 0 ∷ (map (λ b. numbers 0 b 0 0) (bytes s) ++ 
 abbrev pub callRows : List CallRow
 callRows =
     -- Opened, and refused with TEXT at byte 2.
-    calls "abc" [] (said 0 0 0 0 0 1 5 1 0) (back 0 3 0 0 0 0 0 0 0 0 0 0 0 0 5 6)
-    ∷ calls "ab^" [] (said 3 2 0 0 0 0 0 0 0) (back 0 0 0 0 0 0 0 0 0 0 0 0 0 0 0 0)
+    calls "abc" [] (said 0 0 0 0 0 1 5 1 0) (back 0 3 0 0 0 0 0 0 0 0 0 0 0 0 5 6 0 0 unmarked)
+    ∷ calls "ab^" [] (said 3 2 0 0 0 0 0 0 0) (back 0 0 0 0 0 0 0 0 0 0 0 0 0 0 0 0 0 0 unmarked)
     -- An insert; a move that finds no place; numbers that name no key.
-    ∷ calls "bc" (numbers 0 97 0 0 ∷ []) (said 0 0 0 0 0 1 1 1 1) (back 1 2 0 0 0 0 0 0 0 0 0 0 0 0 5 6)
-    ∷ calls "bc" (numbers 1 0 0 0 ∷ []) (said 0 0 0 0 1 0 0 1 0) (back 0 2 0 0 0 0 0 0 0 0 0 0 0 0 5 6)
-    ∷ calls "bc" (numbers 6 0 0 0 ∷ []) (said 5 0 0 0 0 0 0 0 0) (back 0 2 0 0 0 0 0 0 0 0 0 0 0 0 5 6)
+    ∷ calls "bc" (numbers 0 97 0 0 ∷ []) (said 0 0 0 0 0 1 1 1 1) (back 1 2 0 0 0 0 0 0 0 0 0 0 0 0 5 6 0 0 unmarked)
+    ∷ calls "bc" (numbers 1 0 0 0 ∷ []) (said 0 0 0 0 1 0 0 1 0) (back 0 2 0 0 0 0 0 0 0 0 0 0 0 0 5 6 0 0 unmarked)
+    ∷ calls "bc" (numbers 9 0 0 0 ∷ []) (said 5 0 0 0 0 0 0 0 0) (back 0 2 0 0 0 0 0 0 0 0 0 0 0 0 5 6 0 0 unmarked)
     -- Right to the line's ending, and then right to the document's end is deleted: seven bytes, four of them newlines, in rows 4 and 5. RECALL puts them back.
-    ∷ calls "ab$$$ef$g" (numbers 1 0 1 3 ∷ numbers 1 1 1 4 ∷ []) (said 0 0 7 4 0 4 5 1 2) (back 2 0 0 0 0 7 0 0 0 0 0 0 0 0 5 6)
+    ∷ calls "ab$$$ef$g" (numbers 1 0 1 3 ∷ numbers 1 1 1 4 ∷ []) (said 0 0 7 4 0 4 5 1 2) (back 2 0 0 0 0 7 0 0 0 0 0 0 0 0 5 6 0 0 unmarked)
     ∷ calls "ab$$$ef$g" (numbers 1 0 1 3 ∷ numbers 1 1 1 4 ∷ numbers 2 0 0 0 ∷ []) (said 0 0 0 0 0 4 5 1 2)
-    (back 2 7 0 0 0 7 0 0 0 0 0 0 0 0 5 6)
+    (back 2 7 0 0 0 7 0 0 0 0 0 0 0 0 5 6 0 0 unmarked)
     -- Right to the second line's ending, and then left to its beginning is deleted.
     ∷ calls "ab$cdef" (numbers 1 0 1 3 ∷ numbers 1 0 1 3 ∷ numbers 1 1 0 2 ∷ []) (said 0 0 4 0 0 2 2 2 0)
-    (back 3 0 0 0 4 0 0 0 0 0 0 0 0 0 5 6)
+    (back 3 0 0 0 4 0 0 0 0 0 0 0 0 0 5 6 0 0 unmarked)
     -- In a quotation a word is deleted to the left, behind eight bytes of a document of ten; the window has followed the cursor.
     ∷ calls "$$$$$$$xyz" (numbers 1 0 1 4 ∷ numbers 1 0 0 0 ∷ numbers 1 0 0 0 ∷ quoting "abcdefghij klm" (numbers 1 1 0 1 ∷ numbers 1 0 0 0 ∷ []))
-    (said 0 0 1 0 0 0 0 5 2) (back 8 2 10 1 0 0 3 0 0 0 0 1 4 9 5 6)
+    (said 0 0 1 0 0 0 0 5 2) (back 8 2 10 1 0 0 3 0 0 0 0 1 4 9 5 6 0 0 unmarked)
     -- And one to the right.
     ∷ calls "" (quoting "ab cde gh" (numbers 1 0 0 1 ∷ numbers 1 0 0 1 ∷ numbers 1 1 1 1 ∷ [])) (said 0 0 4 0 0 2 2 2 0)
-    (back 0 0 3 2 0 0 0 4 0 0 0 1 0 4 5 6)
+    (back 0 0 3 2 0 0 0 4 0 0 0 1 0 4 5 6 0 0 unmarked)
     -- REPLACE takes the quotation, cut at its cursor; a move to the end follows.
     ∷ calls "" (quoting "aa bbbb" (numbers 1 0 0 1 ∷ numbers 5 0 0 0 ∷ numbers 1 0 1 4 ∷ [])) (said 0 0 4 0 0 0 0 1 5)
-    (back 7 0 0 0 0 0 0 0 3 4 0 0 0 2 5 6)
+    (back 7 0 0 0 0 0 0 0 3 4 0 0 0 2 5 6 0 0 unmarked)
     -- FIND takes the quotation as its pattern and goes right, UPFIND goes back.
-    ∷ calls "ab ab" (quoting "ab" (numbers 4 1 0 0 ∷ [])) (said 0 0 3 0 0 1 3 1 3) (back 3 2 0 0 0 0 0 0 0 0 2 0 0 0 5 6)
-    ∷ calls "ab ab" (quoting "ab" (numbers 4 1 0 0 ∷ numbers 4 0 0 0 ∷ [])) (said 0 0 3 0 0 0 0 1 0) (back 0 5 0 0 0 0 0 0 0 0 2 0 0 0 5 6)
+    ∷ calls "ab ab" (quoting "ab" (numbers 4 1 0 0 ∷ [])) (said 0 0 3 0 0 1 3 1 3) (back 3 2 0 0 0 0 0 0 0 0 2 0 0 0 5 6 0 0 unmarked)
+    ∷ calls "ab ab" (quoting "ab" (numbers 4 1 0 0 ∷ numbers 4 0 0 0 ∷ [])) (said 0 0 3 0 0 0 0 1 0)
+    (back 0 5 0 0 0 0 0 0 0 0 2 0 0 0 5 6 0 0 unmarked)
+    -- MARK behind one byte, and from the document's end CUT takes all that is behind the mark; PASTE puts it back.
+    ∷ calls "ab$cd$e" (numbers 1 0 1 0 ∷ numbers 6 0 0 0 ∷ []) (said 0 0 0 0 0 0 0 1 1) (back 1 6 0 0 0 0 0 0 0 0 0 0 0 0 5 6 0 0 1)
+    ∷ calls "ab$cd$e" (numbers 1 0 1 0 ∷ numbers 6 0 0 0 ∷ numbers 1 0 1 4 ∷ numbers 7 0 0 0 ∷ []) (said 0 0 6 0 0 1 3 1 1)
+    (back 1 0 0 0 0 0 0 0 0 0 0 0 0 0 5 6 6 0 unmarked)
+    ∷ calls "ab$cd$e" (numbers 1 0 1 0 ∷ numbers 6 0 0 0 ∷ numbers 1 0 1 4 ∷ numbers 7 0 0 0 ∷ numbers 8 0 0 0 ∷ []) (said 0 0 0 0 0 1 3 3 1)
+    (back 7 0 0 0 0 0 0 0 0 0 0 0 0 0 5 6 6 0 unmarked)
+    -- With the mark behind the cursor CUT holds what it takes as a right half. Without a mark there is the bell; in QUOTED it gets KEY.
+    ∷ calls "abc" (numbers 1 0 1 4 ∷ numbers 6 0 0 0 ∷ numbers 1 0 0 0 ∷ numbers 7 0 0 0 ∷ []) (said 0 0 1 0 0 1 1 1 2)
+    (back 2 0 0 0 0 0 0 0 0 0 0 0 0 0 5 6 0 1 unmarked)
+    ∷ calls "abc" (numbers 7 0 0 0 ∷ []) (said 0 0 0 0 1 0 0 1 0) (back 0 3 0 0 0 0 0 0 0 0 0 0 0 0 5 6 0 0 unmarked)
+    ∷ calls "abc" (numbers 6 0 0 0 ∷ numbers 3 0 0 0 ∷ numbers 7 0 0 0 ∷ []) (said 5 0 0 0 0 0 0 0 0)
+    (back 0 3 0 0 0 0 0 0 0 0 0 1 0 0 5 6 0 0 0)
     ∷ []
 
 -- ---- Records that are no session
@@ -166,19 +189,26 @@ refuses handed cells code = record { handed = handed; cells = cells; code = code
 
 -- The key has numbers that name none: SIZE and SESSION come before KEY.
 unfoldable pub refusedReply : RefusedRow → HostReply
-refusedReply row = replyOf (hostPressed (row .handed) (numbers 6 0 0 0) (storesFor [] (row .cells)))
+refusedReply row = replyOf (hostPressed (row .handed) (numbers 9 0 0 0) (storesFor [] (row .cells)))
 
 abbrev pub refusedRows : List RefusedRow
 refusedRows =
     -- A mode that is none: SESSION, and before it SIZE. There may be 100 columns, and no 100 rows.
-    refuses (back 10 11 12 13 14 15 16 17 18 19 20 2 21 22 5 6) 30 4
-    ∷ refuses (back 10 11 12 13 14 15 16 17 18 19 20 2 21 22 5 7) 30 1
-    ∷ refuses (back 10 11 12 13 14 15 16 17 18 19 20 2 21 22 1 100) 100 4
-    ∷ refuses (back 10 11 12 13 14 15 16 17 18 19 20 2 21 22 100 1) 100 1
-    -- A mode that is one, and recall texts with two halves: the same.
-    ∷ refuses (back 10 11 12 13 14 15 16 17 18 19 20 0 21 22 5 6) 30 4
-    ∷ refuses (back 10 11 12 13 14 15 16 17 18 19 20 1 21 22 5 6) 30 4
-    ∷ refuses (back 10 11 12 13 14 15 16 17 18 19 20 1 21 22 5 7) 30 1
-    ∷ refuses (back 10 11 12 13 14 15 16 17 18 19 20 1 21 22 1 100) 100 4
-    ∷ refuses (back 10 11 12 13 14 15 16 17 18 19 20 1 21 22 100 1) 100 1
+    refuses (back 10 11 12 13 14 15 16 17 18 19 20 2 21 22 5 6 23 24 25) 30 4
+    ∷ refuses (back 10 11 12 13 14 15 16 17 18 19 20 2 21 22 5 7 23 24 25) 30 1
+    ∷ refuses (back 10 11 12 13 14 15 16 17 18 19 20 2 21 22 1 100 23 24 25) 100 4
+    ∷ refuses (back 10 11 12 13 14 15 16 17 18 19 20 2 21 22 100 1 23 24 25) 100 1
+    -- A mode that is one, recall texts and a held text with two halves: the same.
+    ∷ refuses (back 10 11 12 13 14 15 16 17 18 19 20 0 21 22 5 6 23 24 25) 30 4
+    ∷ refuses (back 10 11 12 13 14 15 16 17 18 19 20 1 21 22 5 6 23 24 25) 30 4
+    ∷ refuses (back 10 11 12 13 14 15 16 17 18 19 20 1 21 22 5 7 23 24 25) 30 1
+    ∷ refuses (back 10 11 12 13 14 15 16 17 18 19 20 1 21 22 1 100 23 24 25) 100 4
+    ∷ refuses (back 10 11 12 13 14 15 16 17 18 19 20 1 21 22 100 1 23 24 25) 100 1
+    -- An empty document: no mark and a mark at 0 are a session's, and then numbers that name no key get KEY. Any other mark is SESSION, and so is a held pair
+    -- with two halves.
+    ∷ refuses (back 0 0 0 0 0 0 0 0 0 0 0 0 0 0 5 6 0 0 unmarked) 30 5
+    ∷ refuses (back 0 0 0 0 0 0 0 0 0 0 0 0 0 0 5 6 0 0 0) 30 5
+    ∷ refuses (back 0 0 0 0 0 0 0 0 0 0 0 0 0 0 5 6 0 0 1) 30 4
+    ∷ refuses (back 0 0 0 0 0 0 0 0 0 0 0 0 0 0 5 6 0 0 18446744073709551614) 30 4
+    ∷ refuses (back 0 0 0 0 0 0 0 0 0 0 0 0 0 0 5 6 1 1 unmarked) 30 4
     ∷ []

@@ -1,9 +1,9 @@
 -- The edges that document 01 marks with P, as one table. Each row opens a text on bytes, brings the cursor to its mark by moves,
 -- presses the keys, and states facts about the last call. proofs/Theorems/Edges shows that the definitions give each of them. Behind it, in
 -- the same form, what the change requests tell of.
-use Rattle.window.specs.Words.{List, [], _∷_, _++_, map, Bool, true, false, _&&_, ℕ, zero, suc, _-_, _*_, eqb, length}
+use Rattle.window.specs.Words.{List, [], _∷_, _++_, map, Bool, true, false, _&&_, ℕ, zero, suc, _-_, _*_, eqb, length, take}
 use Rattle.window.specs.Words.{Left, Right, Move, Delete, Character, Word, LineBeginning, LineEnding, Document}
-use Rattle.window.specs.Words.{Key, Insert, Function, Recall, Quote, Find, Replace}
+use Rattle.window.specs.Words.{Key, Insert, Function, Recall, Quote, Find, Replace, Mark, Cut, Paste}
 use Prim.Native.String.{String}
 use Rattle.gap.specs.Rules.Sequence.{sameBytes, zeros}
 use Rattle.gap.specs.Rules.Strings.{bytes}
@@ -55,7 +55,8 @@ outcome e =
     pressing (moving (length (d .l)) (e .keys))
     (opened (length text) (e .H) (e .W)
     (record {
-      stores = record { text = text ++ zeros (e .T - length text); recall = zeros (e .T); side = zeros (4 * quarter) };
+      stores =
+          record { text = text ++ zeros (e .T - length text); recall = zeros (e .T); held = zeros (e .T); side = zeros (4 * quarter) };
       screen = zeros (e .H * e .W);
     }))
 
@@ -132,8 +133,14 @@ edges =
 abbrev pub deleteSeries : List Key
 deleteSeries = Function Delete Left Document ∷ Function Delete Left Word ∷ []
 
+-- M-101: operators move whole blocks of observations between series. Here the block of two lines goes behind the third.
+abbrev pub moveBlock : List Key
+moveBlock = Mark ∷ Function Move Left Document ∷ Cut ∷ Function Move Right Document ∷ Paste ∷ []
+
 abbrev pub requested : List Edge
 requested =
     usual "1 2 3\n|4 5" deleteSeries (Code 0 ∷ Text "|4 5" ∷ Steps 0 ∷ Bell true ∷ [])
     ∷ usual "1 2 3\n|4 5" (deleteSeries ++ (Recall ∷ [])) (Code 0 ∷ Text "1 2 3\n|4 5" ∷ Steps 0 ∷ Bell false ∷ [])
+    ∷ usual "1 2\n3\n|4 5\n" moveBlock (Code 0 ∷ Text "4 5\n|1 2\n3\n" ∷ Steps 0 ∷ Bell false ∷ Cursor 2 0 ∷ Shows 2 "1 2             " ∷ [])
+    ∷ usual "1 2\n3\n|4 5\n" (take 3 moveBlock) (Code 0 ∷ Text "|4 5\n" ∷ Steps 6 ∷ Bell false ∷ Cursor 1 0 ∷ Named 1 3 ∷ [])
     ∷ []

@@ -13,7 +13,7 @@ use Rattle.window.specs.Tables.SendSamples.{seen, isSeen, dots}
 -- A deck of two rows and three columns, in stores of four bytes.
 abbrev pub deck : Lent
 deck =
-    record { stores = record { text = stored "a\nb_"; recall = zeros 4; side = zeros 1024 }; screen = zeros 6 }
+    record { stores = record { text = stored "a\nb_"; recall = zeros 4; held = zeros 4; side = zeros 1024 }; screen = zeros 6 }
 
 -- To the second line; an insert, one that is refused with KEY, and one that is refused with FULL.
 abbrev pub strokes : List Key

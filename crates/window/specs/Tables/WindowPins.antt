@@ -1,5 +1,6 @@
 -- What document 01 says of the window, each sentence with its examples: they open a text on bytes and press keys, as the edges do.
-use Rattle.window.specs.Words.{List, [], _∷_, _++_, Bool, ℕ, _-_, length, Character, LineBeginning, Document, Key, Insert, Quote, Main}
+use Rattle.window.specs.Words.{List, [], _∷_, _++_, Bool, ℕ, _-_, length, Character, LineBeginning, Document}
+use Rattle.window.specs.Words.{Key, Insert, Quote, Mark, Cut, Main, Unmarked}
 use Prim.Native.String.{String}
 use Rattle.gap.specs.Rules.Sequence.{zeros}
 use Rattle.gap.specs.Rules.Doc.{Doc, content}
@@ -32,6 +33,12 @@ windowPins =
     ∷ on 4 4 "ab\n\nc|d" (moveLeft Character ∷ moveLeft Character ∷ []) (Cursor 2 0 ∷ [])
     ∷ on 4 4 "ab\n\nc|d" (moveRight Character ∷ []) (Cursor 3 2 ∷ [])
     ∷ on 4 4 "|ab" (moveRight Character ∷ []) (Cursor 1 1 ∷ [])
+    ∷ [])
+    ∷ sentence "so it has after CUT, which reports no lines of what it takes"
+    (on 4 4 "a\nb\n|c" (Mark ∷ moveLeft Document ∷ Cut ∷ []) (Cursor 1 0 ∷ Shows 1 "c   " ∷ Named 1 3 ∷ [])
+    ∷ on 4 4 "|a\nb\nc" (moveRight Character ∷ Mark ∷ moveRight Document ∷ Cut ∷ []) (Cursor 1 1 ∷ Shows 1 "a   " ∷ Named 2 3 ∷ [])
+    ∷ on 4 4 "|a\nb\nc" (moveRight LineBeginning ∷ Mark ∷ moveRight Document ∷ Cut ∷ []) (Cursor 2 0 ∷ Named 2 3 ∷ [])
+    ∷ on 4 4 "a\n|b\nc" (Cut ∷ []) (Cursor 2 0 ∷ Named 0 0 ∷ [])
     ∷ [])
     ∷ sentence "row i, column j shows byte c + j of line r + i; the cursor is reported as row - r and column - c"
     (on 2 3 "|abcdef\ngh\nijklmn" (moveRight Document ∷ []) (Offsets 1 3 ∷ Shows 1 "   " ∷ Shows 2 "lmn" ∷ Cursor 2 3 ∷ [])
@@ -77,12 +84,12 @@ standingBytes T d =
       answer = refusal 0 0;
       session =
           record {
-            lengths = lengths (sizes (length (d .l)) (length (d .r)) 0 0) (sizes 0 0 0 0) 0 0 0 Main;
+            lengths = lengths (sizes (length (d .l)) (length (d .r)) 0 0) (sizes 0 0 0 0) 0 0 0 Main 0 0 Unmarked;
             frame = record { r = 0; c = 0; h = 3; w = 10 };
           };
       lent =
           record {
-            stores = record { text = d .l ++ (zeros (T - length (content d)) ++ d .r); recall = zeros T; side = zeros 1024 };
+            stores = record { text = d .l ++ (zeros (T - length (content d)) ++ d .r); recall = zeros T; held = zeros T; side = zeros 1024 };
             screen = zeros 30;
           };
     }

@@ -24,7 +24,7 @@ use Rattle.window.specs.Rules.Core.{Lent, Called, tabled, isSession, ref
 abbrev pub newlinesLeft : ℕ → List ℕ → ℕ
 newlinesLeft l text = newlines (take l text)
 
--- A key has made l bytes left of the cursor to m: where these are no fewer, the l bytes still have the newlines counted in them before; where they
+-- A key but CUT has made l bytes left of the cursor to m: where these are no fewer, the l bytes still have the newlines counted in them before; where they
 -- are more or fewer, lines that it reports are the newlines that came or went.
 pub record LeftCounted (above l m lines : ℕ) (text : List ℕ) : Type 0 where
   pub grown : l ≤ m → above ≡ newlinesLeft l text
@@ -68,9 +68,9 @@ pub record Refreshed (f : Frame) (d : Doc) (old : List ℕ) (named : Rows) (new 
 
 -- ---- Calls
 
--- The four lent stores as one value, and a reply with them as a call's outcome.
-abbrev pub lent : List ℕ → List ℕ → List ℕ → List ℕ → Lent
-lent text recall side screen = record { stores = record { text = text; recall = recall; side = side }; screen = screen }
+-- The five lent stores as one value, and a reply with them as a call's outcome.
+abbrev pub lent : List ℕ → List ℕ → List ℕ → List ℕ → List ℕ → Lent
+lent text recall held side screen = record { stores = record { text = text; recall = recall; held = held; side = side }; screen = screen }
 
 abbrev pub called : Reply → Lent → Called
 called r b = record { answer = r .answer; session = r .session; lent = b }
@@ -86,8 +86,9 @@ turnedDownReply code s = record { answer = refusal code 0; session = s }
 abbrev pub reported : EditorReply → Stores → Did Plain
 reported r b = record { state = plainOf quarter (r .lengths) b; report = r .report }
 
--- An accepted key is shown without a look at the recall store, whatever it holds.
+-- An accepted key is shown without a look at the stores of recall text and held text, whatever they hold.
 abbrev pub Shows : Reply → Frame → EditorReply → (text side screen screenThen : List ℕ) → Type 0
 Shows r f done text side screen screenThen =
-    (recall : List ℕ) → Sound quarter (done .lengths) (stores text recall side) → tabled (f .h) (f .w) (lent text recall side screen) ≡ true
-    → called r (lent text recall side screenThen) ≡ shown f (lent text recall side screen) (reported done (stores text recall side))
+    (recall held : List ℕ) → Sound quarter (done .lengths) (stores text recall held side)
+    → tabled (f .h) (f .w) (lent text recall held side screen) ≡ true
+    → called r (lent text recall held side screenThen) ≡ shown f (lent text recall held side screen) (reported done (stores text recall held side))

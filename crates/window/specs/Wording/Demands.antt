@@ -49,13 +49,13 @@ pub record Carried (s : Session) (k : Key) (b : Lent) (o : Called) : Type 0 wher
 pub record KeyDoes (s : Session) (k : Key) (b : Lent) (o : Called) : Type 0 where
   pub size : (o .answer .code ≡ SIZE) ↔ (tabled (s .frame .h) (s .frame .w) b ≡ false)
   pub session : (o .answer .code ≡ SESSION) ↔ ((tabled (s .frame .h) (s .frame .w) b ≡ true) × (isSession s (b .stores) ≡ false))
-  -- KEY: a byte that is not allowed, or one of two deletions. FULL: the finished text would exceed its store.
-  pub unsound : (o .answer .code ≡ KEY) ↔ (OnSession s b × Unsound k)
+  -- KEY: a byte that is not allowed, one of two deletions, or MARK, CUT or PASTE in QUOTED. FULL: the finished text would exceed its store.
+  pub unsound : (o .answer .code ≡ KEY) ↔ (OnSession s b × Unsound (held s (b .stores) .mode) k)
   pub full : (o .answer .code ≡ FULL)
-      ↔ (OnSession s b × (¬ Unsound k) × Exceeds (T (b .stores)) quarter (pressed k (held s (b .stores)) .state))
+      ↔ (OnSession s b × (¬ Unsound (held s (b .stores) .mode) k) × Exceeds (T (b .stores)) quarter (pressed k (held s (b .stores)) .state))
   pub accepted : (o .answer .code ≡ 0)
-      ↔ (OnSession s b × (¬ Unsound k) × (¬ Exceeds (T (b .stores)) quarter (pressed k (held s (b .stores)) .state)))
-  -- Refused, the record comes back and no byte of the four stores has changed; place, steps, lines, bell, rows and cursor are 0.
+      ↔ (OnSession s b × (¬ Unsound (held s (b .stores) .mode) k) × (¬ Exceeds (T (b .stores)) quarter (pressed k (held s (b .stores)) .state)))
+  -- Refused, the record comes back and no byte of the five stores has changed; place, steps, lines, bell, rows and cursor are 0.
   pub refused : o .answer .code ≢ 0 → o ≡ turnedDown s b (o .answer .code)
   -- Accepted, it is the plain editor's key.
   pub carried : o .answer .code ≡ 0 → Carried s k b o

@@ -1,4 +1,4 @@
--- What the calls promise of their outcome: answer, record and the bytes of all four stores, for every input. And what the routine for
+-- What the calls promise of their outcome: answer, record and the bytes of all five stores, for every input. And what the routine for
 -- terminals promises: answer and the bytes of the buffer.
 use mathlib.Core.Path.{_≡_}
 use Rattle.window.specs.Words.{List, [], _∷_, true, ℕ, _-_, Key, Frame, Session}

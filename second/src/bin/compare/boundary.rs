@@ -14,6 +14,8 @@ extern "C" {
         text_length: usize,
         recall: *mut u8,
         recall_length: usize,
+        held: *mut u8,
+        held_length: usize,
         side: *mut u8,
         side_length: usize,
         screen: *mut u8,
@@ -30,6 +32,8 @@ extern "C" {
         text_length: usize,
         recall: *mut u8,
         recall_length: usize,
+        held: *mut u8,
+        held_length: usize,
         side: *mut u8,
         side_length: usize,
         screen: *mut u8,
@@ -54,12 +58,14 @@ pub struct Proved;
 
 impl Core for Proved {
     fn open(&self, n: usize, h: usize, w: usize, stores: &mut Stores) -> Reply {
-        lend(stores, |[t, r, s, p], [tl, rl, sl, pl]| unsafe { chidukwore_open(n, h, w, t, tl, r, rl, s, sl, p, pl) })
+        lend(stores, |[t, r, k, s, p], [tl, rl, kl, sl, pl]| unsafe { chidukwore_open(n, h, w, t, tl, r, rl, k, kl, s, sl, p, pl) })
     }
 
     fn key(&self, record: Record, numbers: Numbers, stores: &mut Stores) -> Reply {
         let Numbers { kind, a, b, c } = numbers;
-        lend(stores, |[t, r, s, p], [tl, rl, sl, pl]| unsafe { chidukwore_key(record, kind, a, b, c, t, tl, r, rl, s, sl, p, pl) })
+        lend(stores, |[t, r, k, s, p], [tl, rl, kl, sl, pl]| unsafe {
+            chidukwore_key(record, kind, a, b, c, t, tl, r, rl, k, kl, s, sl, p, pl)
+        })
     }
 
     /// The screen is guarded too, and must stay as it is.
@@ -91,8 +97,8 @@ fn guards_stand(area: &[u8]) -> bool {
 }
 
 /// Lends each store between two guards, so that a byte written outside it is seen: as a code that no call has.
-fn lend(stores: &mut Stores, call: impl FnOnce([*mut u8; 4], [usize; 4]) -> Reply) -> Reply {
-    let mut own = [&mut stores.text, &mut stores.recall, &mut stores.side, &mut stores.screen];
+fn lend(stores: &mut Stores, call: impl FnOnce([*mut u8; 5], [usize; 5]) -> Reply) -> Reply {
+    let mut own = [&mut stores.text, &mut stores.recall, &mut stores.held, &mut stores.side, &mut stores.screen];
     let lengths = own.each_ref().map(|store| store.len());
     let mut lent = own.each_ref().map(|store| guarded(store));
     let mut reply = call(lent.each_mut().map(|area| area[GUARD.len()..].as_mut_ptr()), lengths);

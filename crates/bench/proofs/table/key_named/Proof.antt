@@ -4,7 +4,7 @@ use borrow.Author.Needs.{needs}
 use Rattle.gap.specs.Rules.Strings.{bytes}
 use Rattle.bench.specs.Rules.Names.{keyNamed}
 use Rattle.gap.proofs.Laws.Compared.{begins-fits}
-use Rattle.bench.proofs.Laws.KeyNames.{five-words, named-as, named-insert}
+use Rattle.bench.proofs.Laws.KeyNames.{words, named-as, named-insert}
 use Rattle.bench.proofs.table.key_named.Statement.{statement}
 use Rattle.bench.proofs.table.key_named.Tie as tie
 
@@ -16,23 +16,23 @@ returns c =
 
 returns-2 : tie.Need-returns-2
 unfolding bytes
-returns-2 c = named-as _ "recall" (five-words .recall) (c .before .same-bytes .ensures) (c .if2 .taken)
+returns-2 c = named-as _ keyNamed "recall" (words .recall) (c .before .same-bytes .ensures) (c .if2 .taken)
 
 returns-3 : tie.Need-returns-3
 unfolding bytes
-returns-3 c = named-as _ "quote" (five-words .quote) (c .before .same-bytes2 .ensures) (c .if3 .taken)
+returns-3 c = named-as _ keyNamed "quote" (words .quote) (c .before .same-bytes2 .ensures) (c .if3 .taken)
 
 returns-4 : tie.Need-returns-4
 unfolding bytes
-returns-4 c = named-as _ "find" (five-words .find) (c .before .same-bytes3 .ensures) (c .if4 .taken)
+returns-4 c = named-as _ keyNamed "find" (words .find) (c .before .same-bytes3 .ensures) (c .if4 .taken)
 
 returns-5 : tie.Need-returns-5
 unfolding bytes
-returns-5 c = named-as _ "upfind" (five-words .upfind) (c .before .same-bytes4 .ensures) (c .if5 .taken)
+returns-5 c = named-as _ keyNamed "upfind" (words .upfind) (c .before .same-bytes4 .ensures) (c .if5 .taken)
 
 returns-6 : tie.Need-returns-6
 unfolding bytes
-returns-6 c = named-as _ "replace" (five-words .replace) (c .before .same-bytes5 .ensures) (c .if6 .taken)
+returns-6 c = named-as _ keyNamed "replace" (words .replace) (c .before .same-bytes5 .ensures) (c .if6 .taken)
 
 returns-7 : tie.Need-returns-7
 unfolding keyNamed bytes
@@ -46,7 +46,7 @@ returns-7 c =
     rw (sym (insert .before .begins-with .ensures) ∙ insert .if1 .left)
     (rw (sym (recall .before .same-bytes .ensures) ∙ recall .if2 .left, sym (quote .before .same-bytes2 .ensures) ∙ quote .if3 .left)
     (rw (sym (find .before .same-bytes3 .ensures) ∙ find .if4 .left, sym (upfind .before .same-bytes4 .ensures) ∙ upfind .if5 .left)
-    (rw (sym (replace .before .same-bytes5 .ensures) ∙ replace .if6 .left) (c .function-named .ensures))))
+    (rw (sym (replace .before .same-bytes5 .ensures) ∙ replace .if6 .left) (c .mark-named .ensures))))
 
 pub key-named-spec : {M : Type 1} → statement M
 key-named-spec = tie.close (tie.spec
@@ -73,5 +73,5 @@ key-named-spec = tie.close (tie.spec
     (λ c. search needs)  -- slice-aggregate-same-bytes-5
     (λ c κs. search needs)  -- same-bytes-requires-5
     returns-6
-    (λ c κs. search needs)  -- function-named-requires
+    (λ c κs. search needs)  -- mark-named-requires
     returns-7)

@@ -10,25 +10,25 @@ use Rattle.editor.proofs.keys.edit_key.Tie as tie
 on-side-requires : tie.Need-on-side-requires
 on-side-requires c κs =
     let start : tie.Start = search in
-    on-side quarter _ _ (start .pre) Main
+    on-side quarter _ _ (start .pre .1) Main
 
 edit-quotation-requires : tie.Need-edit-quotation-requires
 edit-quotation-requires c κs =
     let start : tie.Start = search in
-    (measured quarter _ (start .pre .tabled) .side, on-side quarter _ _ (start .pre) Quoted)
+    (measured quarter _ (start .pre .1 .tabled) .side, on-side quarter _ _ (start .pre .1) Quoted)
 
 returns : tie.Need-returns
 returns c =
     let done : tie.After-lifted = search in let turned : tie.After-on-side = search in let told : tie.After-enum-told = search in
     let start : tie.Start = search in
-    on-mode quarter _ _ (start .pre) Main _ _ _ _ _ (told .enum-told .given .1) (done .lifted .ensures) (turned .on-side .ensures)
+    λ held sound. on-mode quarter _ _ sound Main _ _ _ _ _ (told .enum-told .given .1) (done .lifted .ensures) (turned .on-side .ensures)
 
 returns-2 : tie.Need-returns-2
 returns-2 c =
     let done : tie.After-lifted2 = search in let turned : tie.After-edit-quotation = search in
     let told : tie.After-enum-told2 = search in let start : tie.Start = search in
     let (edits, rest) = turned .edit-quotation .ensures in
-    on-quotation quarter _ _ (start .pre) _ _ _ _ (told .enum-told2 .given .1) (done .lifted2 .ensures) edits rest
+    λ held sound. on-quotation quarter _ _ sound _ _ _ _ (told .enum-told2 .given .1) (done .lifted2 .ensures) edits rest
 
 pub edit-key-spec : {M : Type 1} → statement M
 edit-key-spec = tie.close (tie.spec

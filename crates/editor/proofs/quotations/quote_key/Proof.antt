@@ -20,7 +20,7 @@ returns c =
     let done : tie.After-edited = search in let taken : tie.After-cleared = search in let mode : tie.After-other-mode = search in
     let freed : tie.After-vacate = search in let start : tie.Start = search in
     let lengths = taken .cleared .ensures ∙ ap (λ mode. cleared mode (start .args .n)) (mode .other-mode .ensures) in
-    λ text recall sound. quote-done quarter _ _ sound _ (done .edited .ensures) refl lengths (freed .vacate .ensures)
+    λ text recall held sound. quote-done quarter _ _ sound _ (done .edited .ensures) refl lengths (freed .vacate .ensures)
 
 pub quote-key-spec : {M : Type 1} → statement M
 quote-key-spec = tie.close (tie.spec

@@ -30,9 +30,9 @@ unfolding quarter
 returns c =
     let found : tie.After-search = search in let taken : tie.After-pattern-taken = search in
     let handed : tie.After-hand-quotation = search in
-    λ recall sound.
+    λ recall held sound.
     let holds = pattern-holds quarter _ _ sound (taken .pattern-taken .ensures) (handed .hand-quotation .ensures) in
-    found .search .ensures _ (holds .sound) ∙ find-done quarter _ _ sound holds _
+    found .search .ensures _ _ (holds .sound) ∙ find-done quarter _ _ sound holds _
 
 pub find-key-spec : {M : Type 1} → statement M
 find-key-spec = tie.close (tie.spec

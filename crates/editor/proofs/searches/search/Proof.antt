@@ -31,7 +31,7 @@ returns : tie.Need-returns
 unfolding quarter
 returns c =
     let rung : tie.After-edited = search in let told : tie.After-enum-told = search in let found : tie.After-match-passage = search in
-    λ recall sound. search-done quarter _ _ sound _ _ _ (found .match-passage .ensures) (told .enum-told .given .1) _ _ _ _ (rung .edited .ensures)
+    λ recall held sound. search-done quarter _ _ sound _ _ _ (found .match-passage .ensures) (told .enum-told .given .1) _ _ _ _ (rung .edited .ensures)
     (not-carried (on-side quarter _ _ sound Main) Move _ refl refl)
 
 move-side-requires : tie.Need-move-side-requires
@@ -44,7 +44,7 @@ unfolding quarter
 returns-2 c =
     let done : tie.After-lifted = search in let gone : tie.After-move-side = search in let told : tie.After-d = search in
     let found : tie.After-match-passage = search in
-    λ recall sound. search-done quarter _ _ sound _ _ _ (found .match-passage .ensures) (told .d .given .1) _ _ _ _ (done .lifted .ensures)
+    λ recall held sound. search-done quarter _ _ sound _ _ _ (found .match-passage .ensures) (told .d .given .1) _ _ _ _ (done .lifted .ensures)
     (gone .move-side .ensures _ (on-side quarter _ _ sound Main))
 
 pub search-spec : {M : Type 1} → statement M

@@ -39,21 +39,23 @@ part-sound-pair-end-3 c =
 returns : tie.Need-returns
 unfolding quarter part editorOk
 returns c =
-    let halves = c .before .before in
-    let pair4 = halves .before in
-    let pair3 = pair4 .before .before in
-    let pair2 = pair3 .before .before in
-    let gap2 = pair2 .before .before in
-    let pair1 = gap2 .before .before in
+    let third : tie.After-one-half3 = search in let sizes : tie.After-holding-sizes = search in let second : tie.After-one-half2 = search in
+    let first : tie.After-one-half = search in let mark : tie.After-mark-within = search in let held : tie.After-sound-pair5 = search in
+    let pair4 : tie.After-sound-pair4 = search in let pair3 : tie.After-sound-pair3 = search in let pair2 : tie.After-sound-pair2 = search in
+    let gap2 : tie.After-sound-gap2 = search in let pair1 : tie.After-sound-pair = search in let gap1 : tie.After-sound-gap = search in
     rw (
-      pair1 .before .sound-gap .ensures,
+      gap1 .sound-gap .ensures,
       pair1 .sound-pair .ensures,
       gap2 .sound-gap2 .ensures,
       pair2 .sound-pair2 .ensures,
       pair3 .sound-pair3 .ensures,
       pair4 .sound-pair4 .ensures,
-      halves .one-half .ensures,
-      c .before .one-half2 .ensures,
+      held .sound-pair5 .ensures,
+      mark .mark-within .ensures,
+      first .one-half .ensures,
+      second .one-half2 .ensures,
+      third .one-half3 .ensures,
+      sizes .holding-sizes .ensures,
       c .no-quotation .ensures,
     )
 
@@ -77,7 +79,10 @@ editor-ok-spec = tie.close (tie.spec
     (λ c. search needs)  -- sub-sound-pair-3
     (λ c. search needs)  -- part-sound-pair-start-3
     part-sound-pair-end-3
-    (λ c κs. search needs)  -- sound-pair-requires-4
+    (λ c κs. search needs) (λ c κs. search needs)  -- sound-pair-requires-4 .. sound-pair-requires-5
+    (λ c κs. search needs)  -- mark-within-requires
     (λ c κs. search needs) (λ c κs. search needs)  -- one-half-requires .. one-half-requires-2
+    (λ c κs. search needs)  -- holding-sizes-requires
+    (λ c κs. search needs)  -- one-half-requires-3
     (λ c κs. search needs)  -- no-quotation-requires
     returns)

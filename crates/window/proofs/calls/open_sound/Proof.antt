@@ -10,18 +10,23 @@ open-stores-requires c κs =
     let start : tie.Start = search in
     (tabled-facts _ _ _ (start .pre .0) .stores, start .pre .1)
 
+abbrev start : tie.After-open-stores → tie.Start
+start c = search
+
 refresh-requires : tie.Need-refresh-requires
 refresh-requires c κs =
-    let opened : tie.After-open-stores = search in let start : tie.Start = search in
-    refresh-asked _ _ _ _ (start .pre .0) (start .pre .1) (opened .open-stores .ensures) (opened .open-stores .kept .1 .1 .1 .0)
+    let opened : tie.After-open-stores = search in
+    let s = start opened in
+    refresh-asked _ _ _ _ (s .pre .0) (s .pre .1) (opened .open-stores .ensures) (opened .open-stores .kept .1 .1 .1 .1 .0)
 
 returns : tie.Need-returns
 returns c =
-    let painted : tie.After-refresh = search in let opened : tie.After-open-stores = search in let start : tie.Start = search in
-    text-opened _ _ _ _ (start .pre .0) (start .pre .1) (opened .open-stores .ensures) (opened .open-stores .kept .1 .1 .1 .0)
+    let painted : tie.After-refresh = search in let opened : tie.After-open-stores = search in
+    let s = start opened in
+    text-opened _ _ _ _ (s .pre .0) (s .pre .1) (opened .open-stores .ensures) (opened .open-stores .kept .1 .1 .1 .1 .0)
     (painted .refresh .ensures)
 
 pub open-sound-spec : {M : Type 1} → statement M
 open-sound-spec = tie.close (tie.spec open-stores-requires refresh-requires
-    (λ c. search needs) (λ c. search needs) (λ c. search needs) (λ c. search needs)  -- same-length .. same-length-4
+    (λ c. search needs) (λ c. search needs) (λ c. search needs) (λ c. search needs) (λ c. search needs)  -- same-length .. same-length-5
     returns)

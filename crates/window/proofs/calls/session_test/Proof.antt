@@ -10,8 +10,8 @@ use Rattle.window.proofs.calls.session_test.Statement.{statement}
 use Rattle.window.proofs.calls.session_test.Tie as tie
 
 -- The editor's test has passed.
-sound : (c : tie.Else1) → let s = c .before .before .before .before .before .before .before in
-    Sound quarter (s .args .s .lengths) (stores (s .args .text .now) (s .args .recall .now) (s .args .side .now))
+sound : (c : tie.Else1) → let s = c .before .before .before .before .before .before .before .before in
+    Sound quarter (s .args .s .lengths) (stores (s .args .text .now) (s .args .recall .now) (s .args .held .now) (s .args .side .now))
 sound c =
     let start : tie.Start = search in
     record {
@@ -20,10 +20,10 @@ sound c =
     }
 
 newlines-left-requires : tie.Need-newlines-left-requires
-newlines-left-requires c κs = omega (arith, texts-held _ _ _ _ (sound c) .document)
+newlines-left-requires c κs = omega (arith, texts-held _ _ _ _ _ (sound c) .document)
 
 cursor-requires : tie.Need-cursor-requires
-cursor-requires c κs = (texts-held _ _ _ _ (sound (c .before)), c .newlines-left .ensures)
+cursor-requires c κs = (texts-held _ _ _ _ _ (sound (c .before)), c .newlines-left .ensures)
 
 returns-2 : tie.Need-returns-2
 returns-2 c =

@@ -1,4 +1,4 @@
--- `show` follows the cursor, paints and names rows: what the definition shows of the state held, whatever the recall store holds.
+-- `show` follows the cursor, paints and names rows: what the definition shows of the state held, whatever the stores of recall text and held text hold.
 use borrow.Author.Needs.{needs}
 use Rattle.window.specs.Wording.Calls.{virtualHeld}
 use Rattle.window.proofs.Laws.KeyCall.{row-from-one, still-visible, offset-row, offset-column, shown-canvas, shows-so}
@@ -39,8 +39,8 @@ returns c =
     let painted : tie.After-refresh = search in let followed : tie.After-follow = search in
     let seen : tie.After-cursor = search in let start : tie.Start = search in
     let (texts, (counted, (frame, long))) = start .pre in
-    λ recall sound fit.
-    shows-so _ _ _ _ _ texts frame long _ (seen .cursor .ensures) _ (followed .follow .ensures) _ _ _ (painted .refresh .ensures) recall sound
+    λ recall held sound fit.
+    shows-so _ _ _ _ _ texts frame long _ (seen .cursor .ensures) _ (followed .follow .ensures) _ _ _ (painted .refresh .ensures) recall held sound
 
 pub show-spec : {M : Type 1} → statement M
 show-spec = tie.close (tie.spec

@@ -10,7 +10,7 @@ use Rattle.window.proofs.calls.tabled_stores.Statement.{statement}
 use Rattle.window.proofs.calls.tabled_stores.Tie as tie
 
 small : (c : tie.Else1)
-    → rowsAndColumns (c .before .before .before .before .before .before .args .h) (c .before .before .before .before .before .before .args .w) ≡ true
+    → let s = c .before .before .before .before .before .before .before in rowsAndColumns (s .args .h) (s .args .w) ≡ true
 small c = sym (c .before .rows-and-columns .ensures) ∙ not-false _ (c .if1 .left)
 
 mul-result : tie.Need-mul-result

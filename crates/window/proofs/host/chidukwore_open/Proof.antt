@@ -14,5 +14,5 @@ pub chidukwore-open-spec : {M : Type 1} → statement M
 chidukwore-open-spec = tie.close (tie.spec
     (λ c κs. search needs)  -- open-requires
     (λ c κs. search needs)  -- in-numbers-requires
-    (λ c. search needs) (λ c. search needs) (λ c. search needs) (λ c. search needs)  -- same-length .. same-length-4
+    (λ c. search needs) (λ c. search needs) (λ c. search needs) (λ c. search needs) (λ c. search needs)  -- same-length .. same-length-5
     returns)
