@@ -1,6 +1,6 @@
 //! What is measured: each scene is a session and a list of keys to press on it.
 
-use crate::chidukwore::{insert, Key, Record, CUT, FIND, MARK, PASTE, QUOTE, RECALL, UPFIND};
+use crate::chidukwore::{insert, Key, Record, CUT, FIND, MARK, NEWLINE, PASTE, QUOTE, RECALL, TAB, UPFIND};
 use crate::proved;
 use crate::random::Random;
 use crate::stores::Stores;
@@ -32,8 +32,11 @@ pub fn all(t: usize, h: usize, w: usize) -> Vec<Scene> {
     let n = t - t / 64;
     let text = ordinary(n);
     let letters = vec![b'a'; n];
-    let typed: Vec<Key> = b"the quick brown fox jumps over\nthe lazy dog".iter().map(|&b| insert(b)).collect();
+    let typed = typing(b"the quick brown fox jumps over\nthe lazy dog");
     let middle = to_middle(&text);
+    // Each line is indented by eight spaces, as the one before. The free bytes of the smaller store are enough for two.
+    let nested = [vec![NEWLINE], typing(b"time=10"), vec![TAB], typing(b"value=2.5")].concat().repeat(2);
+    let spaces = vec![b' '; t / 2 - 1];
     let rest = [DELETE_TO_END, RECALL];
     let pattern = with_pattern(b"operates");
     // Last, the odd letter is what a comparison comes to after 255 others. Within, first and last byte do not tell either.
@@ -41,6 +44,8 @@ pub fn all(t: usize, h: usize, w: usize) -> Vec<Scene> {
     let within = [vec![b'a'; 127], vec![b'b'], vec![b'a'; 128]].concat();
     vec![
         scene("typing in the middle", &text, &middle, &typed),
+        scene("typing indented lines", &text, &[&middle[..], &[NEWLINE, TAB]].concat(), &nested),
+        scene("NEWLINE behind spaces", &spaces, &[DOCUMENT_RIGHT], &[NEWLINE]),
         scene("to the end and back", &text, &[], &[DOCUMENT_RIGHT, DOCUMENT_LEFT]),
         scene("word by word", &text, &middle, &[NEXT_WORD, NEXT_WORD, LAST_WORD, LAST_WORD]),
         scene("a word as long as the text", &letters, &[], &[NEXT_WORD]),
@@ -52,6 +57,10 @@ pub fn all(t: usize, h: usize, w: usize) -> Vec<Scene> {
         scene("FIND, odd letter within", &letters, &with_pattern(&within), &[FIND]),
         scene("QUOTE in and out", &text, &middle, &[QUOTE, QUOTE]),
     ]
+}
+
+fn typing(text: &[u8]) -> Vec<Key> {
+    text.iter().map(|&b| insert(b)).collect()
 }
 
 /// Lines of words, at most 72 columns wide.
@@ -83,6 +92,5 @@ fn to_middle(text: &[u8]) -> Vec<Key> {
 
 /// Keys that store a pattern which occurs nowhere: the cursor stays.
 fn with_pattern(pattern: &[u8]) -> Vec<Key> {
-    let typed = pattern.iter().map(|&b| insert(b));
-    [QUOTE].into_iter().chain(typed).chain([FIND]).collect()
+    [vec![QUOTE], typing(pattern), vec![FIND]].concat()
 }

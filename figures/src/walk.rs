@@ -1,6 +1,6 @@
 //! Random walks that both cores go, compared in answer, record and every byte of the stores after each key.
 
-use crate::chidukwore::{insert, Key, Record, Reply, CUT, FIND, MARK, PASTE, QUOTE, RECALL, REPLACE, UPFIND};
+use crate::chidukwore::{insert, Key, Record, Reply, CUT, FIND, MARK, NEWLINE, PASTE, QUOTE, RECALL, REPLACE, TAB, UPFIND};
 use crate::random::Random;
 use crate::stores::Stores;
 use crate::{hand, proved};
@@ -61,7 +61,7 @@ fn letter(random: &mut Random) -> u8 {
 }
 
 fn any_key(random: &mut Random) -> Key {
-    match random.below(25) {
+    match random.below(29) {
         0..=6 => insert(letter(random)),
         7 => insert(random.below(256) as u8),
         8..=12 => Key(1, random.below(2), random.below(2), random.below(5)),
@@ -73,7 +73,9 @@ fn any_key(random: &mut Random) -> Key {
         19 | 20 => MARK,
         21 => CUT,
         22 | 23 => PASTE,
-        _ => Key(random.below(11), random.below(300), random.below(3), random.below(7)),
+        24 | 25 => NEWLINE,
+        26 | 27 => TAB,
+        _ => Key(random.below(13), random.below(300), random.below(3), random.below(7)),
     }
 }
 

@@ -91,6 +91,12 @@ int main(int argc, char **argv)
     key("left to the document's beginning", CHIDUKWORE_FUNCTION, CHIDUKWORE_MOVE, CHIDUKWORE_LEFT, CHIDUKWORE_DOCUMENT);
     key("paste", CHIDUKWORE_PASTE, 0, 0, 0);
     key("paste once more", CHIDUKWORE_PASTE, 0, 0, 0);
+    key("tab without room", CHIDUKWORE_TAB, 0, 0, 0);
+    key("insert a space", CHIDUKWORE_INSERT, ' ', 0, 0);
+    key("newline", CHIDUKWORE_NEWLINE, 0, 0, 0);
+    key("quote again", CHIDUKWORE_QUOTE, 0, 0, 0);
+    key("tab in the quotation", CHIDUKWORE_TAB, 0, 0, 0);
+    key("newline in the quotation", CHIDUKWORE_NEWLINE, 0, 0, 0);
     key("no key", 99, 0, 0, 0);
     printf("document:\n");
     save(stdout);

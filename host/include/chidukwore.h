@@ -53,7 +53,9 @@ enum {
     CHIDUKWORE_REPLACE = 5,
     CHIDUKWORE_MARK = 6,
     CHIDUKWORE_CUT = 7,
-    CHIDUKWORE_PASTE = 8
+    CHIDUKWORE_PASTE = 8,
+    CHIDUKWORE_NEWLINE = 9, /* a newline, then as many spaces as its line has leading spaces left of the cursor; an insert of 10 has none */
+    CHIDUKWORE_TAB = 10     /* spaces up to the next column that is a multiple of eight, at least one */
 };
 enum { CHIDUKWORE_MOVE = 0, CHIDUKWORE_DELETE = 1 };
 enum { CHIDUKWORE_LEFT = 0, CHIDUKWORE_RIGHT = 1 };
@@ -98,7 +100,7 @@ struct chidukwore_record {
 struct chidukwore_answer {
     size_t code;        /* 0, or a refusal */
     size_t place;       /* for CHIDUKWORE_TEXT only */
-    size_t steps;       /* of moves, deletions and searches; of CUT the bytes that it took */
+    size_t steps;       /* of moves, deletions and searches; of CUT the bytes that it took, of NEWLINE and TAB those that they inserted */
     size_t lines;       /* the newlines that the steps of moves, deletions and searches went over or removed */
     size_t bell;        /* 1 where no place, match or mark was found */
     size_t first, last; /* the rows to repaint, from 1; 0 and 0: none */

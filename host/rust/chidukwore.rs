@@ -85,6 +85,8 @@ pub const REPLACE: Key = Key(5, 0, 0, 0);
 pub const MARK: Key = Key(6, 0, 0, 0);
 pub const CUT: Key = Key(7, 0, 0, 0);
 pub const PASTE: Key = Key(8, 0, 0, 0);
+pub const NEWLINE: Key = Key(9, 0, 0, 0);
+pub const TAB: Key = Key(10, 0, 0, 0);
 
 pub fn insert(b: u8) -> Key {
     Key(0, b.into(), 0, 0)

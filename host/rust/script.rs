@@ -1,7 +1,7 @@
 //! Scripts of the bench program for other hosts: docs/RULES.md, section 9, says how one is written. Here it is read as a whole before
 //! anything is run, and the bench program's two limits are not applied: at most 8,192 bytes of input, and a store of at most 4,096.
 
-use crate::chidukwore::{insert, Key, CUT, FIND, MARK, PASTE, QUOTE, RECALL, REPLACE, UPFIND};
+use crate::chidukwore::{insert, Key, CUT, FIND, MARK, NEWLINE, PASTE, QUOTE, RECALL, REPLACE, TAB, UPFIND};
 
 pub struct Script {
     pub rows: usize,
@@ -63,6 +63,8 @@ fn key(name: &str) -> Option<Key> {
         "mark" => MARK,
         "cut" => CUT,
         "paste" => PASTE,
+        "newline" => NEWLINE,
+        "tab" => TAB,
         _ => {
             let (action, direction) = (next(&["move", "delete"])?, next(&["left", "right"])?);
             Key(1, action, direction, next(&["character", "word", "line-begin", "line-end", "document"])?)

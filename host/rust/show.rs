@@ -3,7 +3,7 @@
 
 mod chidukwore;
 
-use chidukwore::{insert, Answer, Key, Record, Reply, Stores, CUT, FIND, MARK, PASTE, QUOTE, RECALL};
+use chidukwore::{insert, Answer, Key, Record, Reply, Stores, CUT, FIND, MARK, NEWLINE, PASTE, QUOTE, RECALL, TAB};
 use std::process::ExitCode;
 
 const T: usize = 16;
@@ -95,6 +95,12 @@ fn main() -> ExitCode {
     bench.key("left to the document's beginning", Key(1, 0, 0, 4));
     bench.key("paste", PASTE);
     bench.key("paste once more", PASTE);
+    bench.key("tab without room", TAB);
+    bench.key("insert a space", insert(b' '));
+    bench.key("newline", NEWLINE);
+    bench.key("quote again", QUOTE);
+    bench.key("tab in the quotation", TAB);
+    bench.key("newline in the quotation", NEWLINE);
     bench.key("no key", Key(99, 0, 0, 0));
     print!("document:\n{}", String::from_utf8_lossy(&bench.document()));
     ExitCode::SUCCESS

@@ -4,7 +4,7 @@
 use crate::bytes::{encode, record, Record, Stores, LARGEST_T, NO_MARK};
 use crate::core::{numbers_of, Core, Numbers, Reply};
 use crate::damage;
-use crate::generate::{columns, function, length, letters, rows, store, text, DIRECTIONS, NOT_ALLOWED};
+use crate::generate::{columns, deck, function, length, letters, rows, store, text, DIRECTIONS, NOT_ALLOWED};
 use crate::plain::{press, Action, Direction, Doc, Edited, Editor, Key, Mode, QUARTER};
 use crate::random::Random;
 use crate::window::{cursor, virtual_text, window, Offsets};
@@ -108,7 +108,7 @@ fn pattern(random: &mut Random, letters: &[u8], document: &Doc) -> Vec<u8> {
 fn editor(random: &mut Random, t: usize) -> Editor {
     let letters = letters(random);
     let n = length(random, t);
-    let content = text(random, letters, n);
+    let content = deck(random, letters, n);
     let document = doc(random, content);
     let recall_text = recall(random, letters, t - n, t);
     let held = recall(random, letters, t - n, t);
@@ -120,11 +120,11 @@ fn editor(random: &mut Random, t: usize) -> Editor {
             1 => room,
             2 => room + 1,
             3 => room.saturating_sub(1),
-            4 => random.within(QUARTER - 2, QUARTER),
+            4 => random.within(QUARTER - 9, QUARTER),
             5 => random.within(0, QUARTER),
             _ => random.within(0, 6),
         };
-        let text = text(random, letters, n.min(QUARTER));
+        let text = deck(random, letters, n.min(QUARTER));
         doc(random, text)
     };
     let replacement = quarter(random);
@@ -178,7 +178,7 @@ fn offsets(random: &mut Random, text: &Doc, h: usize, w: usize) -> Offsets {
 }
 
 fn key(random: &mut Random, letters: &[u8]) -> Key {
-    match random.weighted(&[15, 4, 35, 12, 8, 10, 16, 4, 12, 10]) {
+    match random.weighted(&[15, 4, 35, 12, 8, 10, 16, 4, 12, 10, 10, 10]) {
         0 => Key::Insert(random.pick(letters)),
         1 => Key::Insert(random.pick(&NOT_ALLOWED)),
         2 => function(random),
@@ -188,7 +188,9 @@ fn key(random: &mut Random, letters: &[u8]) -> Key {
         6 => Key::Replace,
         7 => Key::Mark,
         8 => Key::Cut,
-        _ => Key::Paste,
+        9 => Key::Paste,
+        10 => Key::Newline,
+        _ => Key::Tab,
     }
 }
 
@@ -239,7 +241,7 @@ fn opening(random: &mut Random) -> Call {
     let letters = letters(random);
     let mut stores = Stores::zeros(t, h, w);
     let [old_recall, old_held, old_screen] = [(); 3].map(|()| random.draw() as u8);
-    stores.text = text(random, letters, t);
+    stores.text = deck(random, letters, t);
     stores.recall.fill(old_recall);
     stores.held.fill(old_held);
     stores.side.iter_mut().for_each(|byte| *byte = random.draw() as u8);
@@ -293,6 +295,6 @@ fn arbitrary(random: &mut Random) -> Call {
         stores.side[random.below(4) * QUARTER] = random.pick(&[0, 10, 32, b'a', 127]);
         stores.side[random.below(1_024)] = random.pick(&[0, 0, 0, b'a']);
     }
-    let numbers = Numbers { kind: random.below(10), a: random.below(4), b: random.below(3), c: random.below(6) };
+    let numbers = Numbers { kind: random.below(12), a: random.below(4), b: random.below(3), c: random.below(6) };
     Call { kind: Kind::Key { record, numbers }, stores }
 }

@@ -128,6 +128,8 @@ pub fn key_of(numbers: Numbers) -> Option<Key> {
         6 => Key::Mark,
         7 => Key::Cut,
         8 => Key::Paste,
+        9 => Key::Newline,
+        10 => Key::Tab,
         _ => return None,
     })
 }
@@ -156,6 +158,8 @@ pub fn numbers_of(key: Key) -> Numbers {
         Key::Mark => (6, 0, 0, 0),
         Key::Cut => (7, 0, 0, 0),
         Key::Paste => (8, 0, 0, 0),
+        Key::Newline => (9, 0, 0, 0),
+        Key::Tab => (10, 0, 0, 0),
     };
     Numbers { kind, a, b, c }
 }

@@ -104,7 +104,7 @@ pub fn length(random: &mut Random, stores: &mut Stores) {
 
 /// Numbers that name no key, and numbers in places that are not looked at.
 pub fn key(random: &mut Random, numbers: &mut Numbers) {
-    let number = random.pick(&[0, 1, 2, 3, 4, 5, 6, 7, 8, 9, 97, 256, 256 + 97, (1 << 32) + 1, usize::MAX]);
+    let number = random.pick(&[0, 1, 2, 3, 4, 5, 6, 7, 8, 9, 10, 11, 97, 256, 256 + 97, (1 << 32) + 1, usize::MAX]);
     match random.below(4) {
         0 => numbers.kind = number,
         1 => numbers.a = number,

@@ -1,6 +1,6 @@
 //! Sizes, texts and function keys, with the hard corners weighted: what is full or nearly so, what is small, what repeats.
 
-use crate::plain::{Action, Direction, Key, Place};
+use crate::plain::{Action, Direction, Key, Place, NEWLINE, SPACE};
 use crate::random::Random;
 
 pub const DIRECTIONS: [Direction; 2] = [Direction::Left, Direction::Right];
@@ -26,6 +26,22 @@ pub fn text(random: &mut Random, letters: &[u8], n: usize) -> Vec<u8> {
         text.push(byte);
     }
     text
+}
+
+/// n bytes of a document or quotation: such a text, or one whose lines are indented.
+pub fn deck(random: &mut Random, letters: &[u8], n: usize) -> Vec<u8> {
+    if random.percent(65) {
+        return text(random, letters, n);
+    }
+    let mut deck = Vec::with_capacity(n);
+    while deck.len() < n {
+        let (spaces, more) = (random.pick(&[0, 1, 2, 3, 4, 7, 8, 9, 16]), random.below(10));
+        deck.resize(deck.len() + spaces, SPACE);
+        deck.extend(text(random, letters, more));
+        deck.push(NEWLINE);
+    }
+    deck.truncate(n);
+    deck
 }
 
 /// T up to 4,096.
@@ -64,10 +80,10 @@ pub fn columns(random: &mut Random) -> usize {
 
 /// How long a text is, for a room: most often full or nearly so.
 pub fn length(random: &mut Random, room: usize) -> usize {
-    match random.weighted(&[25, 15, 10, 10, 40]) {
+    match random.weighted(&[25, 12, 18, 10, 35]) {
         0 => room,
         1 => room.saturating_sub(1),
-        2 => room.saturating_sub(random.within(2, 5)),
+        2 => room.saturating_sub(random.within(2, 9)),
         3 => 0,
         _ => random.within(0, room),
     }

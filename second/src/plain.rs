@@ -1,7 +1,8 @@
-//! The plain editor (01, "The plain editor"; 02, M-101, M-103, M-104; readings, B and C; 001, sections 1.1 to 1.5): two sequences, places,
-//! distances by trying each d, keys. Nothing here knows of stores or screens. A key works on texts without bound; only the finished text
-//! is held against its room.
+//! The plain editor (01, "The plain editor"; 02, M-101, M-103 to M-105; readings, B and C; 001, sections 1.1 to 1.5): two sequences,
+//! places, distances by trying each d, keys. Nothing here knows of stores or screens. A key works on texts without bound; only the
+//! finished text is held against its room.
 
+use crate::indent;
 use crate::mark::{after_deletion, after_insertion, Mark};
 use std::collections::VecDeque;
 
@@ -46,6 +47,8 @@ pub enum Key {
     Mark,
     Cut,
     Paste,
+    Newline,
+    Tab,
 }
 
 /// The refusals that a key itself can get; the others are about sizes and bytes.
@@ -260,6 +263,14 @@ pub fn press(before: &Editor, key: Key, t: usize) -> Result<Pressed, Refusal> {
             let pair = editor.held.clone();
             editor.insert(&pair);
         }
+        Key::Newline => {
+            let bytes = indent::newline(&editor.current().text);
+            went = insert_run(&mut editor, &bytes);
+        }
+        Key::Tab => {
+            let bytes = indent::tab(&editor.current().text);
+            went = insert_run(&mut editor, &bytes);
+        }
     }
     if editor.main.text.length() > t || editor.quoted.text.length() > QUARTER {
         return Err(Refusal::Full);
@@ -323,6 +334,13 @@ fn replace(editor: &mut Editor) -> Option<Went> {
     editor.insert(&pair);
     editor.main.recall = Doc::new(&[], &editor.pattern);
     Some(Went::default())
+}
+
+/// NEWLINE and TAB "report the bytes inserted as steps and keep the recall text" (02, M-105). They are none of the keys that report lines
+/// (C25).
+fn insert_run(editor: &mut Editor, bytes: &[u8]) -> Option<Went> {
+    editor.insert(&Doc::new(bytes, &[]));
+    Some(Went { steps: bytes.len(), lines: 0 })
 }
 
 /// "CUT removes the text between cursor and mark, holds it as a deletion's pair, reports its length as steps and drops the mark; recall

@@ -1,5 +1,5 @@
-//! The bench program (01, "The bench program"; 02, M-101, M-104; readings, A1 to A17, C6, C21): its input read line by line, its output
-//! byte for byte.
+//! The bench program (01, "The bench program"; 02, M-101, M-104, M-105; readings, A1 to A17, C6, C21): its input read line by line, its
+//! output byte for byte.
 
 use crate::bytes::{Stores, LARGEST_H, LARGEST_W};
 use crate::core::{numbers_of, Core, Reply};
@@ -100,6 +100,8 @@ fn key_line(line: &[u8]) -> Option<Key> {
         b"mark" => return Some(Key::Mark),
         b"cut" => return Some(Key::Cut),
         b"paste" => return Some(Key::Paste),
+        b"newline" => return Some(Key::Newline),
+        b"tab" => return Some(Key::Tab),
         _ => {}
     }
     // Only a place's own name has a hyphen in it, so the first two part action, direction and place.
@@ -137,6 +139,8 @@ pub fn key_name(key: Key) -> String {
         Key::Mark => return "mark".into(),
         Key::Cut => return "cut".into(),
         Key::Paste => return "paste".into(),
+        Key::Newline => return "newline".into(),
+        Key::Tab => return "tab".into(),
         Key::Function(action, direction, place) => (action, direction, place),
     };
     let action = ["move", "delete"][action as usize];

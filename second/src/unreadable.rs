@@ -89,20 +89,21 @@ const LENGTHS: [usize; 7] = [
     LARGEST_INPUT - 1, LARGEST_INPUT, LARGEST_INPUT, LARGEST_INPUT + 1, LARGEST_INPUT + 1, 10_000, 70_000,
 ];
 #[rustfmt::skip]
-const KEYS: [&str; 46] = [
+const KEYS: [&str; 50] = [
     "", "key", "key=", "=quote", " key=quote", "Key=quote", "key=Quote", "key= quote", "key=quote ", "key=quote\r", "key=quotee",
     "key=recal", "key=insert", "key=insert-", "key=insert-256", "key=insert-999", "key=insert-00", "key=insert-007",
     "key=insert-097", "key=insert-00097", "key=insert-99999", "key=insert-100000", "key=insert-+97", "key=insert--1",
     "key=insert-97 ", "key=insert-a", "key=insert97", "key=move", "key=move-left", "key=move-up-word", "key=move-left-",
     "key=move-left-line", "key=move-left-line-ending", "key=delete-right-line-begin-", "key=left-move-word",
     "key=move-left-Word", "key=find-left", "key=upfind-", "key=replace=", "rows=1",
-    "key=Mark", "key=mark ", "key=marks", "key=mark-0", "key=cut-left", "key=past",
+    "key=Mark", "key=mark ", "key=marks", "key=mark-0", "key=cut-left", "key=past", "key=new-line",
+    "key=newline-2", "key=Tab", "key=tab-8",
 ];
 /// Readable, though they look like the ones above.
 #[rustfmt::skip]
-const ODD_KEYS: [&str; 10] = [
+const ODD_KEYS: [&str; 12] = [
     "key=insert-0", "key=insert-9", "key=insert-127", "key=insert-255", "key=insert-10", "key=delete-left-line-end",
-    "key=delete-right-line-begin", "key=mark", "key=cut", "key=paste",
+    "key=delete-right-line-begin", "key=mark", "key=cut", "key=paste", "key=newline", "key=tab",
 ];
 
 /// A script made of a walk, in half of the cases with one thing that the bench program must notice.

@@ -1,10 +1,11 @@
 //! Walks: sessions of many keys. The writer of a walk keeps the plain state, so that it knows how much room is left, what can be
 //! found and where the lines end, and steers for the hard corners instead of waiting for them.
 
-use crate::generate::{columns, function, length, letters, rows, text, DIRECTIONS, NOT_ALLOWED, PLACES};
+use crate::generate::{columns, deck, function, length, letters, rows, text, DIRECTIONS, NOT_ALLOWED, PLACES};
 use crate::plain::{press, Action, Direction, Doc, Edited, Editor, Key, Mode, Place, QUARTER};
 use crate::random::Random;
 
+mod indents;
 mod marks;
 
 /// A session to be walked through: an opening and the keys after it.
@@ -21,7 +22,7 @@ pub struct Walk {
 pub fn walk(random: &mut Random, t: usize) -> Walk {
     let letters = letters(random);
     let (h, w, n) = (rows(random), columns(random), length(random, t));
-    let text = text(random, letters, n);
+    let text = deck(random, letters, n);
     let keys = if random.percent(70) { random.within(50, 400) } else { random.within(50, 800) };
     let main = Edited { text: Doc::new(&[], &text), recall: Doc::default() };
     let editor = Editor { main, ..Editor::default() };
@@ -53,7 +54,7 @@ struct Writer {
 type Phrase = fn(&mut Writer);
 
 /// The phrases, each with how often it comes.
-const PHRASES: [(usize, Phrase); 15] = [
+const PHRASES: [(usize, Phrase); 17] = [
     (3, Writer::command),
     (30, Writer::any),
     (20, Writer::type_some),
@@ -69,6 +70,8 @@ const PHRASES: [(usize, Phrase); 15] = [
     (16, Writer::change_at_mark),
     (8, Writer::replace_at_mark),
     (14, Writer::cut_and_paste),
+    (8, Writer::indent),
+    (10, Writer::indent_in_little_room),
     (8, Writer::quotation),
     (8, Writer::fill),
     (3, Writer::be_refused),
@@ -88,12 +91,16 @@ impl Writer {
         room - self.editor.current().text.length()
     }
 
+    fn step(&mut self, direction: Direction, count: usize) {
+        (0..count).for_each(|_| self.press(Key::Function(Action::Move, direction, Place::Character)));
+    }
+
     fn letter(&mut self) -> Key {
         Key::Insert(self.random.pick(self.letters))
     }
 
     fn any(&mut self) {
-        let key = match self.random.weighted(&[30, 30, 10, 6, 6, 6, 10, 4, 5, 5]) {
+        let key = match self.random.weighted(&[30, 30, 10, 6, 6, 6, 10, 4, 5, 5, 4, 4]) {
             0 => self.letter(),
             1 => function(&mut self.random),
             2 => Key::Recall,
@@ -103,13 +110,15 @@ impl Writer {
             6 => Key::Replace,
             7 => Key::Mark,
             8 => Key::Cut,
-            _ => Key::Paste,
+            9 => Key::Paste,
+            10 => Key::Newline,
+            _ => Key::Tab,
         };
         self.press(key);
     }
 
     fn command(&mut self) {
-        let key = match self.random.weighted(&[20, 50, 12, 12, 3, 3, 2, 2, 2]) {
+        let key = match self.random.weighted(&[20, 50, 12, 12, 3, 3, 2, 2, 2, 2]) {
             0 => Key::Quote,
             1 => Key::Find(Direction::Right),
             2 => Key::Find(Direction::Left),
@@ -118,6 +127,7 @@ impl Writer {
             5 => Key::Mark,
             6 => Key::Cut,
             7 => Key::Paste,
+            8 => Key::Tab,
             _ => self.letter(),
         };
         self.press(key);

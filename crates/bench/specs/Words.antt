@@ -16,7 +16,7 @@ pub use Rattle.editor.specs.declared.Action.the-variants.{Move, Delete}
 pub use Rattle.editor.specs.declared.Place.{Place}
 pub use Rattle.editor.specs.declared.Place.the-variants.{Character, Word, LineBeginning, LineEnding, Document}
 pub use Rattle.editor.specs.declared.Key.{Key}
-pub use Rattle.editor.specs.declared.Key.the-variants.{Insert, Function, Recall, Quote, Find, Replace, Mark, Cut, Paste}
+pub use Rattle.editor.specs.declared.Key.the-variants.{Insert, Function, Recall, Quote, Find, Replace, Mark, Cut, Paste, Newline, Tab}
 pub use Rattle.bench.specs.declared.Header.{Header}
 pub use Rattle.bench.specs.declared.Heading.{Heading}
 pub use Rattle.bench.specs.declared.Heading.the-variants.{Headed, Broken}

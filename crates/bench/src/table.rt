@@ -12,7 +12,7 @@ use window::host_keys::function_key;
 ghost use mathlib.Core.Path.{_≡_};
 ghost use Prim.Native.Nat.{_<_};
 ghost use Rattle.gap.specs.Rules.Sequence.{sameBytes};
-ghost use Rattle.bench.specs.Rules.Names.{nameOf, combinationAt, functionOf, entryOf, functionNamed, insertNumbered, markNamed, keyNamed};
+ghost use Rattle.bench.specs.Rules.Names.{nameOf, combinationAt, functionOf, entryOf, functionNamed, insertNumbered, indentNamed, markNamed, keyNamed};
 
 // Actions, directions and places by the numbers that the host's boundary gives them: a table of enum values would take the checker
 // five times as long.
@@ -233,7 +233,20 @@ fn insert_numbered(n: Number) -> Naming
     Naming::Named(Key::Insert(value as u8))
 }
 
-// The key of this name, if it is about the mark, or a function key.
+// The key of this name, if it indents, or a function key.
+fn indent_named(name: &[u8]) -> Naming
+    ensures { λ k. ⌜ k ≡ indentNamed (now (name .entry)) ⌝ }
+{
+    if same_bytes(name, b"newline") {
+        return Naming::Named(Key::Newline);
+    }
+    if same_bytes(name, b"tab") {
+        return Naming::Named(Key::Tab);
+    }
+    function_named(name)
+}
+
+// The key of this name, if it is about the mark, indents, or is a function key.
 fn mark_named(name: &[u8]) -> Naming
     ensures { λ k. ⌜ k ≡ markNamed (now (name .entry)) ⌝ }
 {
@@ -246,7 +259,7 @@ fn mark_named(name: &[u8]) -> Naming
     if same_bytes(name, b"paste") {
         return Naming::Named(Key::Paste);
     }
-    function_named(name)
+    indent_named(name)
 }
 
 // The key of this name.

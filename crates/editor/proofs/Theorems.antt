@@ -7,4 +7,5 @@ pub mod LinesCrossed
 pub mod LeftTexts
 pub mod Marks
 pub mod Cuts
+pub mod Indents
 pub mod Pins

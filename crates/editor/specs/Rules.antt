@@ -4,5 +4,6 @@ pub mod Places
 pub mod Passages
 pub mod Marks
 pub mod Plain
+pub mod Indents
 pub mod Keys
 pub mod Bytes

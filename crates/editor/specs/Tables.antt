@@ -4,4 +4,5 @@ pub mod KeyPins
 pub mod QuotationPins
 pub mod MarkPins
 pub mod CutPins
+pub mod IndentPins
 pub mod SessionPins

@@ -1,7 +1,7 @@
 -- The words that the definitions of this layer speak with, passed on in one place.
 pub use mathlib.Core.List.{List, [], _∷_, _++_}
 pub use mathlib.Core.Bool.{Bool, true, false, not, _&&_, _||_, cond}
-pub use Prim.Native.Nat.{ℕ, zero, suc, _+_, _-_, _*_}
+pub use Prim.Native.Nat.{ℕ, zero, suc, _+_, _-_, _*_, _%_}
 pub use lib.Dec.{eqb, leb, ltb}
 pub use lib.ListN.{length, take, drop}
 pub use Rattle.gap.specs.declared.Direction.{Direction}
@@ -14,13 +14,12 @@ pub use Rattle.editor.specs.declared.Place.the-variants.{Character, Word
 pub use Rattle.editor.specs.declared.Passage.{Passage}
 pub use Rattle.editor.specs.declared.Passage.the-variants.{Reached, Nowhere}
 pub use Rattle.editor.specs.declared.Neighbour.{Neighbour}
-pub use Rattle.editor.specs.declared.Neighbour.the-variants.{Nothing, Space, Newline, Other}
 pub use Rattle.editor.specs.declared.Marking.{Marking}
 pub use Rattle.editor.specs.declared.Marking.the-variants.{Unmarked, At}
 pub use Rattle.editor.specs.declared.Mode.{Mode}
 pub use Rattle.editor.specs.declared.Mode.the-variants.{Main, Quoted}
 pub use Rattle.editor.specs.declared.Key.{Key}
-pub use Rattle.editor.specs.declared.Key.the-variants.{Insert, Function, Recall, Quote, Find, Replace, Mark, Cut, Paste}
+pub use Rattle.editor.specs.declared.Key.the-variants.{Insert, Function, Recall, Quote, Find, Replace, Mark, Cut, Paste, Newline, Tab}
 pub use Rattle.editor.specs.declared.Sizes.{Sizes}
 pub use Rattle.editor.specs.declared.Lengths.{Lengths}
 pub use Rattle.editor.specs.declared.Report.{Report}

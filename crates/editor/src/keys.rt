@@ -83,6 +83,8 @@ pub fn sound_key(mode: Mode, k: Key) -> bool
         Key::Mark => is_main(mode),
         Key::Cut => is_main(mode),
         Key::Paste => is_main(mode),
+        Key::Newline => true,
+        Key::Tab => true,
     }
 }
 
@@ -133,6 +135,8 @@ fn act(
         Key::Mark => mark_key(n),
         Key::Cut => cut_key(n, text, held),
         Key::Paste => paste_key(n, text, held),
+        Key::Newline => edit_key(Edit::Newline, n, text, recall, side),
+        Key::Tab => edit_key(Edit::Tab, n, text, recall, side),
     }
 }
 

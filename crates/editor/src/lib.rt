@@ -1,5 +1,6 @@
 // The editor layer: keys on a document, a quotation and their recall texts, without a screen.
 pub mod finds;
+pub mod indents;
 pub mod keys;
 pub mod marks;
 pub mod passages;
@@ -65,6 +66,8 @@ pub enum Key {
     Mark,
     Cut,
     Paste,
+    Newline,
+    Tab,
 }
 
 // The keys that act on one side, the document's or the quotation's.
@@ -72,6 +75,8 @@ pub enum Edit {
     Insert(u8),
     Function(Action, Direction, Place),
     Recall,
+    Newline,
+    Tab,
 }
 
 // The length of a quarter of the side store.

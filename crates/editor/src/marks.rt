@@ -150,6 +150,8 @@ fn exchange_of(k: Key, n: Lengths, report: Report, m: Lengths) -> Exchange
         Key::Mark => NOTHING,
         Key::Cut => NOTHING,
         Key::Paste => coming(n.hl + n.hr),
+        Key::Newline => in_document(mode, coming(report.steps)),
+        Key::Tab => in_document(mode, coming(report.steps)),
     }
 }
 

@@ -6,6 +6,8 @@ use crate::Passage;
 use crate::Place;
 use crate::SideReply;
 use crate::Sizes;
+use crate::indents::newline_side;
+use crate::indents::tab_side;
 use crate::passages::place_passage;
 use crate::records::QUIET;
 use crate::records::RANG;
@@ -171,5 +173,7 @@ pub fn on_side(e: Edit, n: Sizes, text: &mut [u8], recall: &mut [u8]) -> SideRep
         Edit::Insert(b) => insert_side(b, n, text),
         Edit::Function(action, way, place) => function_side(action, way, place, n, text, recall),
         Edit::Recall => recall_side(n, text, recall),
+        Edit::Newline => newline_side(n, text),
+        Edit::Tab => tab_side(n, text),
     }
 }

@@ -16,6 +16,7 @@ pub mod Compared
 pub mod StoreTests
 pub mod LineScans
 pub mod LinePlaces
+pub mod Indents
 pub mod Moves
 pub mod Decimals
 pub mod Fields

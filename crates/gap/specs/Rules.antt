@@ -6,6 +6,7 @@ pub mod Checks
 pub mod Doc
 pub mod Nearest
 pub mod Lines
+pub mod Indents
 pub mod Layout
 pub mod Decimal
 pub mod Fields

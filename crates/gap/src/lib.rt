@@ -2,6 +2,7 @@
 pub mod compare;
 pub mod decimals;
 pub mod fields;
+pub mod indents;
 pub mod lines;
 pub mod numbers;
 pub mod runs;

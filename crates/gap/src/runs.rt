@@ -1,20 +1,27 @@
-// Runs of bytes: clearing, copying, taking a run out of a store into a pair store, and shifting a run within a store.
+// Runs of bytes: filling, clearing, copying, taking a run out of a store into a pair store, and shifting a run within a store.
 use crate::numbers::smaller;
 ghost use mathlib.Core.Path.{_≡_};
 ghost use mathlib.Core.List.{_++_};
 ghost use Prim.Native.Nat.{_+_, _-_, _≤_, _<_};
-ghost use lib.ListN.{length, take, drop};
+ghost use lib.ListN.{length, take, drop, replicate};
 ghost use Rattle.gap.specs.Rules.Sequence.{part, patch, zeros};
+
+// Every byte becomes b.
+fn fill(s: &mut [u8], b: u8)
+    ensures { λ _. ⌜ now (s .exit) ≡ replicate (length (now (s .entry))) b ⌝ }
+{
+    let mut i = 0;
+    while i < s.len() {
+        s[i] = b;
+        i += 1;
+    }
+}
 
 // Every byte becomes 0.
 pub fn clear(s: &mut [u8])
     ensures { λ _. ⌜ now (s .exit) ≡ zeros (length (now (s .entry))) ⌝ }
 {
-    let mut i = 0;
-    while i < s.len() {
-        s[i] = 0;
-        i += 1;
-    }
+    fill(s, 0);
 }
 
 // The run is copied to the front.
@@ -37,13 +44,21 @@ pub fn copy_at(s: &mut [u8], at: usize, run: &[u8])
     copy_front(&mut s[at..], run);
 }
 
+// The d bytes from `at` on become b.
+pub fn fill_at(s: &mut [u8], at: usize, d: usize, b: u8)
+    requires { ⌜ at + d ≤ length (now s) ⌝ }
+    ensures { λ _. ⌜ now (s .exit) ≡ patch at (replicate d b) (now (s .entry)) ⌝ }
+{
+    let end = at + d;
+    fill(&mut s[at..end], b);
+}
+
 // The d bytes from `at` on become 0: vacated bytes are cleared at once.
 pub fn vacate(s: &mut [u8], at: usize, d: usize)
     requires { ⌜ at + d ≤ length (now s) ⌝ }
     ensures { λ _. ⌜ now (s .exit) ≡ patch at (zeros d) (now (s .entry)) ⌝ }
 {
-    let end = at + d;
-    clear(&mut s[at..end]);
+    fill_at(s, at, d, 0);
 }
 
 // From place n on, every byte becomes 0.

@@ -1,6 +1,7 @@
 // Gap stores: moving the cursor, inserting, deleting into a pair store, and placing a pair into the text.
 use crate::runs::clear_from;
 use crate::runs::copy_at;
+use crate::runs::fill_at;
 use crate::runs::hold;
 use crate::runs::shift;
 use crate::runs::take_out;
@@ -11,6 +12,7 @@ ghost use Prim.Native.Nat.{_+_, _≤_, _<_};
 ghost use lib.ListN.{length, take};
 ghost use Rattle.gap.specs.declared.Direction.the-variants.{Left, Right};
 ghost use Rattle.gap.specs.Rules.Doc.{empty, move, delete, times, removed, splice};
+ghost use Rattle.gap.specs.Rules.Indents.{spaces};
 ghost use Rattle.gap.specs.Rules.Layout.{gapped, paired, ungap, unpair, IsGap};
 
 // The cursor goes d bytes left: they cross the gap.
@@ -40,6 +42,16 @@ pub fn insert(s: &mut [u8], l: usize, r: usize, b: u8)
     ensures { λ _. ⌜ now (s .exit) ≡ gapped (length (now (s .entry))) (splice 0 0 (record { l = b ∷ []; r = [] }) (ungap l r (now (s .entry)))) ⌝ }
 {
     s[l] = b;
+}
+
+// A byte and n spaces behind it go in left of the cursor.
+pub fn insert_spaced(s: &mut [u8], l: usize, r: usize, b: u8, n: usize)
+    requires { ⌜ IsGap l r (now s) ⌝ }
+    requires { ⌜ l + r + n < length (now s) ⌝ }
+    ensures { λ _. ⌜ now (s .exit) ≡ gapped (length (now (s .entry))) (splice 0 0 (record { l = b ∷ spaces n; r = [] }) (ungap l r (now (s .entry)))) ⌝ }
+{
+    s[l] = b;
+    fill_at(s, l + 1, n, 32);
 }
 
 // The d bytes left of the cursor go into the pair store, which then holds nothing else.

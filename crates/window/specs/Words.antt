@@ -17,7 +17,7 @@ pub use Rattle.editor.specs.declared.Marking.the-variants.{Unmarked, At}
 pub use Rattle.editor.specs.declared.Mode.{Mode}
 pub use Rattle.editor.specs.declared.Mode.the-variants.{Main, Quoted}
 pub use Rattle.editor.specs.declared.Key.{Key}
-pub use Rattle.editor.specs.declared.Key.the-variants.{Insert, Function, Recall, Quote, Find, Replace, Mark, Cut, Paste}
+pub use Rattle.editor.specs.declared.Key.the-variants.{Insert, Function, Recall, Quote, Find, Replace, Mark, Cut, Paste, Newline, Tab}
 pub use Rattle.editor.specs.declared.Sizes.{Sizes}
 pub use Rattle.editor.specs.declared.Lengths.{Lengths}
 pub use Rattle.editor.specs.declared.Report.{Report}

@@ -63,6 +63,8 @@ fn is_cut(k: Key) -> bool
         Key::Mark => false,
         Key::Cut => true,
         Key::Paste => false,
+        Key::Newline => false,
+        Key::Tab => false,
     }
 }
 

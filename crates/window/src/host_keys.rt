@@ -106,5 +106,11 @@ pub fn key_from(kind: usize, a: usize, b: usize, c: usize) -> Key
     if kind == 8 {
         return Key::Paste;
     }
+    if kind == 9 {
+        return Key::Newline;
+    }
+    if kind == 10 {
+        return Key::Tab;
+    }
     Key::Insert(0)
 }

@@ -38,6 +38,16 @@ pub fn last_newline(s: &[u8]) -> Option<usize> {
     s[..s.len() - behind].iter().rposition(|&b| b == b'\n')
 }
 
+/// What a text has of its last line.
+pub fn current_line(s: &[u8]) -> &[u8] {
+    &s[last_newline(s).map_or(0, |i| i + 1)..]
+}
+
+/// How many spaces a text begins with: few as a rule, so they are looked at one by one.
+pub fn leading_spaces(s: &[u8]) -> usize {
+    s.iter().position(|&b| b != b' ').unwrap_or(s.len())
+}
+
 /// The places where the pattern stands. A block without a place that has both its first and its last byte is ruled out as a whole.
 pub fn matches<'a>(s: &'a [u8], pattern: &'a [u8]) -> impl DoubleEndedIterator<Item = usize> + 'a {
     let m = pattern.len();

@@ -1,6 +1,6 @@
 //! Keys on the document and the quotation, without a screen.
 
-use super::bytes::{allowed, newlines};
+use super::bytes::{allowed, current_line, leading_spaces, newlines};
 use super::places::{distance_left, distance_right, find_left, find_right, Direction, Place};
 use super::texts::Side;
 use crate::chidukwore::{self, Record, NO_MARK};
@@ -18,6 +18,8 @@ pub enum Edit {
     Insert(u8),
     Function(Action, Direction, Place),
     Recall,
+    Newline,
+    Tab,
 }
 
 pub enum Key {
@@ -68,6 +70,8 @@ pub fn sound_key(chidukwore::Key(kind, a, b, c): chidukwore::Key, mode: usize) -
         6 if mode == 0 => Some(Key::Mark),
         7 if mode == 0 => Some(Key::Cut),
         8 if mode == 0 => Some(Key::Paste),
+        9 => Some(Key::Edit(Edit::Newline)),
+        10 => Some(Key::Edit(Edit::Tab)),
         _ => None,
     }
 }
@@ -184,7 +188,24 @@ fn on_side(side: &mut Side, edit: Edit) -> Result<Went, Full> {
             side.place_recall();
             Ok(Went::default())
         }
+        Edit::Newline => {
+            let indent = leading_spaces(current_line(side.left()));
+            spaced(side, b'\n', indent)
+        }
+        Edit::Tab => {
+            let column = current_line(side.left()).len();
+            spaced(side, b' ', 7 - column % 8)
+        }
     }
+}
+
+/// A byte with k spaces behind it goes in, all of it or nothing.
+fn spaced(side: &mut Side, b: u8, k: usize) -> Result<Went, Full> {
+    if side.room() <= k {
+        return Err(Full);
+    }
+    side.insert_spaced(b, k);
+    Ok(Went { steps: 1 + k, ..Went::default() })
 }
 
 fn function(side: &mut Side, action: Action, way: Direction, place: Place) -> Went {

@@ -49,6 +49,13 @@ impl Side<'_> {
         self.l += 1;
     }
 
+    /// A byte with k spaces behind it.
+    pub fn insert_spaced(&mut self, b: u8, k: usize) {
+        self.insert(b);
+        self.text[self.l..self.l + k].fill(b' ');
+        self.l += k;
+    }
+
     pub fn delete_left(&mut self, d: usize) {
         let from = self.l - d;
         self.take_out(from, d);

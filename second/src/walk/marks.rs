@@ -19,10 +19,6 @@ impl Writer {
         }
     }
 
-    fn step(&mut self, direction: Direction, count: usize) {
-        (0..count).for_each(|_| self.press(Key::Function(Action::Move, direction, Place::Character)));
-    }
-
     /// The mark, then changes at it and a few bytes from it, and deletions that end at it or go on over it.
     pub(super) fn change_at_mark(&mut self) {
         self.to_main();

@@ -9,8 +9,8 @@ use Rattle.gap.specs.Rules.Strings.{bytes}
 use Rattle.gap.specs.Rules.Decimal.{numberOf}
 use Rattle.gap.proofs.Laws.Sequence.{same-equal}
 use Rattle.gap.proofs.Laws.Runs.{tailOf, tail-lent}
-use Rattle.bench.specs.Words.{Left, Right, Recall, Quote, Find, Replace, Mark, Cut, Paste, Number, Naming, Named}
-use Rattle.bench.specs.Rules.Names.{mostDigits, insertNumbered, markNamed, keyNamed}
+use Rattle.bench.specs.Words.{Left, Right, Recall, Quote, Find, Replace, Mark, Cut, Paste, Newline, Tab, Number, Naming, Named}
+use Rattle.bench.specs.Rules.Names.{mostDigits, insertNumbered, indentNamed, markNamed, keyNamed}
 
 pub record Words : Type 0 where
   pub recall : Named Recall ≡ keyNamed (bytes "recall")
@@ -21,10 +21,12 @@ pub record Words : Type 0 where
   pub mark : Named Mark ≡ markNamed (bytes "mark")
   pub cut : Named Cut ≡ markNamed (bytes "cut")
   pub paste : Named Paste ≡ markNamed (bytes "paste")
+  pub newline : Named Newline ≡ indentNamed (bytes "newline")
+  pub tab : Named Tab ≡ indentNamed (bytes "tab")
 
 pub words : Words
-unfolding keyNamed markNamed begins sameBytes bytes
-words = record { recall = refl; quote = refl; find = refl; upfind = refl; replace = refl; mark = refl; cut = refl; paste = refl }
+unfolding keyNamed markNamed indentNamed begins sameBytes bytes
+words = record { recall = refl; quote = refl; find = refl; upfind = refl; replace = refl; mark = refl; cut = refl; paste = refl; newline = refl; tab = refl }
 
 module _ {yes : Bool} {key : Naming} (name : List ℕ) where
   -- A name that is a word names what the word names.

@@ -7,8 +7,8 @@ use Rattle.gap.specs.Rules.Sequence.{every, sameBytes, begins, counted}
 use Rattle.gap.specs.Rules.Strings.{bytes}
 use Rattle.gap.specs.Rules.Nearest.{nearest}
 use Rattle.gap.specs.Rules.Decimal.{valueAfter, isNumber, numberOf, digitsIn, decimal}
-use Rattle.bench.specs.Words.{Left, Right, Key, Insert, Function, Recall, Quote, Find, Replace, Mark, Cut, Paste, Named}
-use Rattle.bench.specs.Rules.Names.{nameOf, combinations, functionOf, functionNamed, markNamed, keyNamed}
+use Rattle.bench.specs.Words.{Left, Right, Key, Insert, Function, Recall, Quote, Find, Replace, Mark, Cut, Paste, Newline, Tab, Named}
+use Rattle.bench.specs.Rules.Names.{nameOf, combinations, functionOf, functionNamed, indentNamed, markNamed, keyNamed}
 use Rattle.bench.proofs.Laws.KeyNames.{words}
 
 abbrev pub keyName : Key → List ℕ
@@ -22,19 +22,21 @@ keyName Replace = bytes "replace"
 keyName Mark = bytes "mark"
 keyName Cut = bytes "cut"
 keyName Paste = bytes "paste"
+keyName Newline = bytes "newline"
+keyName Tab = bytes "tab"
 
--- The inserts of all bytes, the 20 function keys, and the eight others.
+-- The inserts of all bytes, the 20 function keys, and the ten others.
 unfoldable pub allKeys : List Key
 allKeys =
     map Insert (counted 256 0)
-    ++ (map functionOf combinations ++ (Recall ∷ Quote ∷ Find Right ∷ Find Left ∷ Replace ∷ Mark ∷ Cut ∷ Paste ∷ []))
+    ++ (map functionOf combinations ++ (Recall ∷ Quote ∷ Find Right ∷ Find Left ∷ Replace ∷ Mark ∷ Cut ∷ Paste ∷ Newline ∷ Tab ∷ []))
 
 abbrev pub keyAt : ℕ → Key
 keyAt i = getD allKeys i Recall
 
 -- One test, computed over all of them.
 all-named : map (λ k. keyNamed (keyName k)) allKeys ≡ map Named allKeys
-unfolding every sameBytes begins counted bytes nearest valueAfter isNumber numberOf digitsIn decimal combinations functionNamed markNamed keyNamed allKeys
+unfolding every sameBytes begins counted bytes nearest valueAfter isNumber numberOf digitsIn decimal combinations functionNamed indentNamed markNamed keyNamed allKeys
 all-named = refl
 
 -- The name of a key names that key.
@@ -45,6 +47,6 @@ each-named i =
     ∙ ap (getD (map Named allKeys) i) (sym (words .recall))
     ∙ List·getD-map Named allKeys i Recall
 
--- So keys that have the same name are the same key: no name of a function key is that of another, one of the eight words, or an insert's.
+-- So keys that have the same name are the same key: no name of a function key is that of another, one of the ten words, or an insert's.
 pub no-two-alike : (i j : ℕ) → keyName (keyAt i) ≡ keyName (keyAt j) → keyAt i ≡ keyAt j
 no-two-alike i j same = let named = sym (each-named i) ∙ ap keyNamed same ∙ each-named j in cc named

@@ -18,7 +18,7 @@ use Rattle.window.specs.declared.Answer.{Answer}
 use Rattle.window.specs.Rules.Core.{Lent, rowsAndColumns}
 use Rattle.bench.specs.Words.{Right, Move, LineEnding, Number, Read, Unreadable, Header, Heading, Headed, Broken}
 use Rattle.bench.specs.Words.{Named, Unnamed, Entry}
-use Rattle.bench.specs.Rules.Names.{nameOf, combinations, functionOf, entryOf, functionNamed, markNamed, keyNamed}
+use Rattle.bench.specs.Rules.Names.{nameOf, combinations, functionOf, entryOf, functionNamed, indentNamed, markNamed, keyNamed}
 use Rattle.bench.specs.Rules.Script.{whenRead, textThere, headingOf}
 use Rattle.bench.specs.Rules.Print.{rowsOf, acceptedBlock, refusedBlock, block, scriptLine}
 use Rattle.bench.specs.Rules.Run.{unlessLarge, beginning, laidOut, fresh, printedFrom, output}
@@ -27,11 +27,11 @@ use Rattle.bench.specs.Tables.Blocks.{blockPins}
 
 -- 01, the bench program: keys. Each of these words names its key, and those of the second list name none.
 pub names-pinned : map (λ n. keyNamed (bytes (n .name))) (functionNames ++ otherNames) ≡ map (λ n. Named (n .key)) (functionNames ++ otherNames)
-unfolding every sameBytes begins bytes nearest valueAfter isNumber numberOf combinations functionNamed markNamed keyNamed
+unfolding every sameBytes begins bytes nearest valueAfter isNumber numberOf combinations functionNamed indentNamed markNamed keyNamed
 names-pinned = refl
 
 pub no-names-pinned : map (λ name. keyNamed (bytes name)) noNames ≡ map (λ name. Unnamed) noNames
-unfolding every sameBytes begins bytes nearest valueAfter isNumber numberOf combinations functionNamed markNamed keyNamed
+unfolding every sameBytes begins bytes nearest valueAfter isNumber numberOf combinations functionNamed indentNamed markNamed keyNamed
 no-names-pinned = refl
 
 -- 01, plain editor: all 20 stand in the table, in this order.

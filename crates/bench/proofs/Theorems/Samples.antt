@@ -19,7 +19,7 @@ use Rattle.editor.specs.Rules.Bytes.{quarter, sized, plainOf, lengthsOf, stores
 use Rattle.window.specs.Rules.Window.{virtualIn, rowCells, joined, window, visible, policy}
 use Rattle.window.specs.Rules.Rows.{firstRow, lastRow}
 use Rattle.window.specs.Rules.Core.{tabled, isSession, openedText, opened, shown, finished, keyed}
-use Rattle.bench.specs.Rules.Names.{combinations, functionNamed, markNamed, keyNamed}
+use Rattle.bench.specs.Rules.Names.{combinations, functionNamed, indentNamed, markNamed, keyNamed}
 use Rattle.bench.specs.Rules.Script.{textThere, headingOf, keyOf, readingAt}
 use Rattle.bench.specs.Rules.Print.{rowsOf, acceptedBlock, refusedBlock, block, scriptLine}
 use Rattle.bench.specs.Rules.Run.{beginning, openingTurn, pressedTurn, nextTurn, turns, fresh, output}
@@ -31,7 +31,7 @@ unfolding every sameBytes begins part patch zeros counted bytes move delete time
     lineEnding word documentEnd isAt soundKey inserted carried function recalled onSide quoted withPattern searched found withReplacement
     exchanged substituted replaced markThrough markedHere cutTo pasted acted changeOf pressed fits bounded key quarter sized plainOf lengthsOf
     storesOf editorOk virtualIn rowCells joined window visible policy firstRow lastRow tabled isSession openedText opened shown finished keyed
-    combinations functionNamed markNamed keyNamed
+    combinations functionNamed indentNamed markNamed keyNamed
     lineOf lineAt endAt nextAt lineNumber fieldOf headerAt textThere headingOf keyOf readingAt entry rowsOf acceptedBlock refusedBlock block
     scriptLine beginning openingTurn pressedTurn nextTurn turns fresh output printed
 samples-printed = refl

@@ -2,7 +2,7 @@
 use Rattle.bench.specs.Words.{List, [], _∷_, _++_, map, cond, ℕ, _-_, leb, length, drop, getD, String, Number, Read, Unreadable}
 use Rattle.bench.specs.Words.{Direction, Left, Right, Search, Reached, Nowhere, Action, Move, Delete}
 use Rattle.bench.specs.Words.{Place, Character, Word, LineBeginning, LineEnding, Document, Key, Insert, Function, Recall, Quote}
-use Rattle.bench.specs.Words.{Find, Replace, Mark, Cut, Paste, Naming, Named, Unnamed, Entry}
+use Rattle.bench.specs.Words.{Find, Replace, Mark, Cut, Paste, Newline, Tab, Naming, Named, Unnamed, Entry}
 use Rattle.gap.specs.Rules.Sequence.{sameBytes, begins, zeros}
 use Rattle.gap.specs.Rules.Strings.{bytes}
 use Rattle.gap.specs.Rules.Nearest.{nearest}
@@ -85,11 +85,16 @@ abbrev pub insertNumbered : Number → Naming
 insertNumbered (Read n) = cond (leb n 255) (Named (Insert n)) Unnamed
 insertNumbered Unreadable = Unnamed
 
+-- The keys that indent. (02, M-105. DECISIONS C6.)
+unfoldable pub indentNamed : List ℕ → Naming
+indentNamed name =
+    cond (sameBytes name (bytes "newline")) (Named Newline) (cond (sameBytes name (bytes "tab")) (Named Tab) (functionNamed name))
+
 -- The keys about the mark. (02, M-101. DECISIONS C6.)
 unfoldable pub markNamed : List ℕ → Naming
 markNamed name =
     cond (sameBytes name (bytes "mark")) (Named Mark)
-    (cond (sameBytes name (bytes "cut")) (Named Cut) (cond (sameBytes name (bytes "paste")) (Named Paste) (functionNamed name)))
+    (cond (sameBytes name (bytes "cut")) (Named Cut) (cond (sameBytes name (bytes "paste")) (Named Paste) (indentNamed name)))
 
 unfoldable pub keyNamed : List ℕ → Naming
 keyNamed name =

@@ -1,6 +1,6 @@
 -- Every key's name as documents 01 and 02 write it, and words that name no key. proofs/Theorems/Pins computes them.
 use Rattle.bench.specs.Words.{List, [], _∷_, String, Left, Right, Move, Delete, Character, Word, LineBeginning, LineEnding, Document}
-use Rattle.bench.specs.Words.{Key, Insert, Function, Recall, Quote, Find, Replace, Mark, Cut, Paste}
+use Rattle.bench.specs.Words.{Key, Insert, Function, Recall, Quote, Find, Replace, Mark, Cut, Paste, Newline, Tab}
 
 pub record NamedKey : Type 0 where
   pub name : String
@@ -45,6 +45,8 @@ otherNames =
     ∷ names "mark" Mark
     ∷ names "cut" Cut
     ∷ names "paste" Paste
+    ∷ names "newline" Newline
+    ∷ names "tab" Tab
     ∷ names "insert-0" (Insert 0)
     ∷ names "insert-10" (Insert 10)
     ∷ names "insert-97" (Insert 97)
@@ -71,6 +73,8 @@ noNames =
     ∷ "marks"
     ∷ "Cut"
     ∷ "past"
+    ∷ "newlines"
+    ∷ "ta"
     ∷ "move"
     ∷ "move-left"
     ∷ "move-left-line"

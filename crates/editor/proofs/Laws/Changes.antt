@@ -17,11 +17,12 @@ use Rattle.gap.proofs.Laws.Doc.{same-texts, deletions-left, deletions-right, in
 use Rattle.gap.proofs.Laws.Compared.{begins-fits}
 use Rattle.gap.proofs.Theorems.Distance.{distance-least}
 use Rattle.editor.specs.Words.{Direction, Left, Right, Search, Passage, Reached, Nowhere, Move, Delete, Mode, Main, Quoted}
-use Rattle.editor.specs.Words.{Key, Insert, Function, Recall, Quote, Find, Replace, Mark, Cut, Paste, Marking, Unmarked, At}
+use Rattle.editor.specs.Words.{Key, Insert, Function, Recall, Quote, Find, Replace, Mark, Cut, Paste, Newline, Tab, Marking, Unmarked, At}
 use Rattle.editor.specs.Rules.Places.{isAt}
 use Rattle.editor.specs.Rules.Passages.{withLines, passageTo}
 use Rattle.editor.specs.Rules.Marks.{Change, unchanged, putting, taking, wayTo, farTo, markWithin}
 use Rattle.editor.specs.Rules.Plain.{Side, Plain, quiet, rang, Did, reporting, within}
+use Rattle.editor.specs.Rules.Indents.{leftward, insertedRun, indentedLine, newlined, spacesToTab, tabbed}
 use Rattle.editor.specs.Rules.Keys.{inserted, carried, function, recalled, sideOf, withSide, onSide, quoted}
 use Rattle.editor.specs.Rules.Keys.{withPattern, matches, searched, found, withReplacement, exchanged, substituted, replaced}
 use Rattle.editor.specs.Rules.Keys.{markedHere, cutTo, pasted, acted, ofDocument, cutting, changeOf}
@@ -144,12 +145,14 @@ goes Replace = false
 goes Mark = false
 goes Cut = false
 goes Paste = false
+goes Newline = false
+goes Tab = false
 
 -- The text behind a key that does not go somewhere is the key's change of the text before it.
 pub text-changed : (k : Key) (p : Plain) → goes k ≡ false
     → let did = acted k p in
     let c = changeOf k p did in did .state .main .text ≡ splice (c .before) (c .behind) (c .put) (p .main .text)
-unfolding acted changeOf inserted function recalled quoted replaced markedHere pasted
+unfolding acted changeOf inserted function recalled quoted replaced markedHere pasted newlined tabbed insertedRun
 text-changed (Insert b) p here = on-side-changed (λ n. putting (single b)) (inserted b) p refl
 text-changed (Function Move way place) p here = absurd (false≢true (sym here))
 text-changed (Function Delete way place) p here =
@@ -161,6 +164,8 @@ text-changed Replace p here = replaced-text (p .mode) p
 text-changed Mark p here = sym (unchanged-text (p .main .text))
 text-changed Cut p here = cut-text (p .mark) p
 text-changed Paste p here = refl
+text-changed Newline p here = on-side-changed (λ n. putting (leftward (indentedLine (p .main .text)))) newlined p refl
+text-changed Tab p here = on-side-changed (λ n. putting (leftward (spacesToTab (p .main .text)))) tabbed p refl
 
 -- The content behind every key is that of the change of the text before it.
 pub content-changed : (k : Key) (p : Plain)
@@ -179,6 +184,8 @@ content-changed Replace p = ap content (text-changed Replace p refl)
 content-changed Mark p = ap content (text-changed Mark p refl)
 content-changed Cut p = ap content (text-changed Cut p refl)
 content-changed Paste p = ap content (text-changed Paste p refl)
+content-changed Newline p = ap content (text-changed Newline p refl)
+content-changed Tab p = ap content (text-changed Tab p refl)
 
 -- ---- A change takes no more than is there
 
@@ -254,3 +261,7 @@ change-within Replace p inside = replaced-within (p .mode) p
 change-within Mark p inside = putting-within empty (p .main .text)
 change-within Cut p inside = cut-within (p .mark) (p .main .text) inside
 change-within Paste p inside = putting-within (p .held) (p .main .text)
+change-within Newline p inside =
+    let x = leftward (indentedLine (p .main .text)) in on-side-within (λ n. putting x) newlined p (putting-within x (p .main .text))
+change-within Tab p inside =
+    let x = leftward (spacesToTab (p .main .text)) in on-side-within (λ n. putting x) tabbed p (putting-within x (p .main .text))

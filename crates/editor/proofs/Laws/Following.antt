@@ -3,28 +3,30 @@
 use mathlib.Core.Path.{_≡_, refl, sym, ap, subst, _∙_}
 use mathlib.Core.Logic.{⊎-elim}
 use mathlib.Core.Bool.{Bool, true, false, cond}
-use mathlib.Core.List.{[], _∷_}
+use mathlib.Core.List.{List, [], _∷_}
 use Prim.Native.Nat.{ℕ, _+_, _≤_}
+use native.Mathlib.Nat.{add-zero}
 use native.Mathlib.Omega.{arith}
 use lib.ListN.{length}
 use borrow.Author.Tests.{leb-true, le-leb}
-use Rattle.gap.proofs.Laws.Tests.{decided, clash, cond-true, cond-false}
+use Rattle.gap.proofs.Laws.Tests.{decided, clash, cond-true}
 use Rattle.gap.specs.Rules.Doc.{Doc}
-use Rattle.editor.specs.Words.{Direction, Left, Right, Action, Move, Delete, Mode, Main, Quoted, Marking, Unmarked, At, Lengths, Exchange}
-use Rattle.editor.specs.Words.{Key, Insert, Function, Recall, Quote, Find, Replace, Mark, Cut, Paste}
+use Rattle.editor.specs.Words.{Direction, Left, Right, Move, Delete, Mode, Main, Quoted, Marking, Unmarked, At, Lengths, Exchange}
+use Rattle.editor.specs.Words.{Key, Insert, Function, Recall, Quote, Find, Replace, Mark, Cut, Paste, Newline, Tab}
 use Rattle.editor.specs.declared.EditorReply.{EditorReply}
-use Rattle.editor.specs.Rules.Refusals.{KEY, FULL}
+use Rattle.editor.specs.Rules.Refusals.{FULL}
 use Rattle.editor.specs.Rules.Plain.{Plain, Did, Outcome, refused, done}
-use Rattle.editor.specs.Rules.Marks.{Change, unchanged, putting, taking, markThrough, markChanged, markWithin, wayTo, farTo}
-use Rattle.editor.specs.Rules.Keys.{soundKey, ofDocument, cutting, changeOf, cutTo, acted, pressed, fits, bounded, key}
-use Rattle.editor.specs.Rules.Bytes.{Stores, Edited, quarter, plainOf, lengthsOf, storesOf, editedTo, SoundTexts, Encoded}
+use Rattle.editor.specs.Rules.Marks.{Change, unchanged, putting, taking, markThrough, markChanged, markWithin}
+use Rattle.editor.specs.Rules.Indents.{leftward, insertedRun, indentedLine, newlined, spacesToTab, tabbed}
+use Rattle.editor.specs.Rules.Keys.{soundKey, sideOf, onSide, ofDocument, changeOf, cutTo, acted, pressed, fits, bounded, key}
+use Rattle.editor.specs.Rules.Bytes.{Stores, Edited, plainOf, lengthsOf, storesOf, editedTo, SoundTexts, Encoded}
 use Rattle.editor.specs.Wording.Promise.{Sound}
-use Rattle.editor.specs.Wording.Marks.{nothing, going, inDocument, exchangeOf, cuts, markExchanged, markOf, markedAt, followedReply, Moderate, Followable}
+use Rattle.editor.specs.Wording.Marks.{nothing, coming, going, inDocument, exchangeOf, cuts, markExchanged, markOf, markedAt, followedReply, Moderate, Followable}
 use Rattle.editor.proofs.Laws.Session.{measured}
 use Rattle.editor.proofs.Laws.Encoding.{session-encoded}
 use Rattle.editor.proofs.Laws.Keeps.{acted-sound, fits-acted}
-use Rattle.editor.proofs.Laws.Changes.{change-within}
-use Rattle.editor.proofs.Laws.Marks.{cut-mark, acted-mark-within}
+use Rattle.editor.proofs.Laws.Changes.{size, change-within}
+use Rattle.editor.proofs.Laws.Marks.{cut-mark, acted-mark-within, size-changed}
 
 -- A change in numbers.
 abbrev inNumbers : Change → Exchange
@@ -39,48 +41,59 @@ deleted-so Main Left n = refl
 deleted-so Main Right n = refl
 deleted-so Quoted way n = refl
 
--- What a key other than CUT changes, by the lengths before and behind it.
-abbrev exchangeBy : Key → Plain → Did Plain → Exchange
-exchangeBy k p did = exchangeOf k (lengthsOf p) (did .report) (lengthsOf (did .state))
+-- NEWLINE and TAB report the bytes that come.
+run-so : (mode : Mode) (run : Doc → List ℕ) (p : Plain)
+    → inDocument mode (coming (length (run (sideOf mode p .text)))) ≡ inNumbers (ofDocument mode (putting (leftward (run (p .main .text)))))
+run-so Main run p = ap coming (sym (add-zero (length (run (p .main .text)))))
+run-so Quoted run p = refl
 
-exchange-so : (k : Key) (p : Plain) (did : Did Plain) → cuts k ≡ false → exchangeBy k p did ≡ inNumbers (changeOf k p did)
-unfolding exchangeOf changeOf lengthsOf
-exchange-so (Insert b) p did other = in-mode (p .mode) (putting (record { l = b ∷ []; r = [] }))
-exchange-so (Function Move way place) p did other = refl
-exchange-so (Function Delete way place) p did other = deleted-so (p .mode) way (did .report .steps)
-exchange-so Recall p did other = in-mode (p .mode) (putting (p .main .recall))
-exchange-so Quote p did other = refl
-exchange-so (Find way) p did other = refl
-exchange-so Replace p did other = go (did .report .bell)
+-- What a key other than CUT changes, by the lengths before and behind it.
+abbrev exchangeBy : Key → Plain → Exchange
+exchangeBy k p = exchangeOf k (lengthsOf p) (acted k p .report) (lengthsOf (acted k p .state))
+
+exchange-so : (k : Key) (p : Plain) → cuts k ≡ false → exchangeBy k p ≡ inNumbers (changeOf k p (acted k p))
+unfolding acted exchangeOf changeOf lengthsOf onSide newlined tabbed insertedRun
+exchange-so (Insert b) p other = in-mode (p .mode) (putting (record { l = b ∷ []; r = [] }))
+exchange-so (Function Move way place) p other = refl
+exchange-so (Function Delete way place) p other = deleted-so (p .mode) way (acted (Function Delete way place) p .report .steps)
+exchange-so Recall p other = in-mode (p .mode) (putting (p .main .recall))
+exchange-so Quote p other = refl
+exchange-so (Find way) p other = refl
+exchange-so Replace p other = go (acted Replace p .report .bell)
   where
     exchange : Change
-    exchange = record { before = 0; behind = length (did .state .pattern); put = did .state .replacement }
+    exchange = let q = acted Replace p .state in record { before = 0; behind = length (q .pattern); put = q .replacement }
 
     go : (bell : Bool) → cond bell nothing (inNumbers exchange) ≡ inNumbers (cond bell unchanged exchange)
     go true = refl
     go false = refl
-exchange-so Mark p did other = refl
-exchange-so Cut p did other = clash refl other
-exchange-so Paste p did other = refl
+exchange-so Mark p other = refl
+exchange-so Cut p other = clash refl other
+exchange-so Paste p other = refl
+exchange-so Newline p other = run-so (p .mode) indentedLine p
+exchange-so Tab p other = run-so (p .mode) spacesToTab p
 
 -- For CUT nothing is changed in numbers.
-cut-nothing : (k : Key) (p : Plain) (did : Did Plain) → cuts k ≡ true → exchangeBy k p did ≡ nothing
+cut-nothing : (k : Key) (p : Plain) → cuts k ≡ true → exchangeBy k p ≡ nothing
 unfolding exchangeOf
-cut-nothing (Insert b) p did cut = clash cut refl
-cut-nothing (Function action way place) p did cut = clash cut refl
-cut-nothing Recall p did cut = clash cut refl
-cut-nothing Quote p did cut = clash cut refl
-cut-nothing (Find way) p did cut = clash cut refl
-cut-nothing Replace p did cut = clash cut refl
-cut-nothing Mark p did cut = clash cut refl
-cut-nothing Cut p did cut = refl
-cut-nothing Paste p did cut = clash cut refl
+cut-nothing (Insert b) p cut = clash cut refl
+cut-nothing (Function action way place) p cut = clash cut refl
+cut-nothing Recall p cut = clash cut refl
+cut-nothing Quote p cut = clash cut refl
+cut-nothing (Find way) p cut = clash cut refl
+cut-nothing Replace p cut = clash cut refl
+cut-nothing Mark p cut = clash cut refl
+cut-nothing Cut p cut = refl
+cut-nothing Paste p cut = clash cut refl
+cut-nothing Newline p cut = clash cut refl
+cut-nothing Tab p cut = clash cut refl
 
 -- So the mark goes the same way. CUT leaves none to go.
-mark-by : (k : Key) (p : Plain) (did : Did Plain) → cuts k ≡ false
-    → markOf k (lengthsOf p) (did .report) (lengthsOf (did .state)) ≡ markChanged (changeOf k p did) (p .main .text) (did .state .mark)
+mark-by : (k : Key) (p : Plain) → cuts k ≡ false
+    → let did = acted k p in
+    markOf k (lengthsOf p) (did .report) (lengthsOf (did .state)) ≡ markChanged (changeOf k p did) (p .main .text) (did .state .mark)
 unfolding lengthsOf
-mark-by k p did other = ap (λ e. markExchanged e (length (p .main .text .l)) (did .state .mark)) (exchange-so k p did other)
+mark-by k p other = ap (λ e. markExchanged e (length (p .main .text .l)) (acted k p .state .mark)) (exchange-so k p other)
 
 none-through : (from gone come from' gone' come' : ℕ) (mark : Marking) → mark ≡ Unmarked
     → markThrough from gone come mark ≡ markThrough from' gone' come' mark
@@ -91,60 +104,24 @@ pub mark-so : (k : Key) (p : Plain)
     → let did = acted k p in
     markOf k (lengthsOf p) (did .report) (lengthsOf (did .state)) ≡ markChanged (changeOf k p did) (p .main .text) (did .state .mark)
 unfolding acted lengthsOf
-mark-so (Insert b) p = mark-by (Insert b) p (acted (Insert b) p) refl
-mark-so (Function action way place) p = mark-by (Function action way place) p (acted (Function action way place) p) refl
-mark-so Recall p = mark-by Recall p (acted Recall p) refl
-mark-so Quote p = mark-by Quote p (acted Quote p) refl
-mark-so (Find way) p = mark-by (Find way) p (acted (Find way) p) refl
-mark-so Replace p = mark-by Replace p (acted Replace p) refl
-mark-so Mark p = mark-by Mark p (acted Mark p) refl
+mark-so (Insert b) p = mark-by (Insert b) p refl
+mark-so (Function action way place) p = mark-by (Function action way place) p refl
+mark-so Recall p = mark-by Recall p refl
+mark-so Quote p = mark-by Quote p refl
+mark-so (Find way) p = mark-by (Find way) p refl
+mark-so Replace p = mark-by Replace p refl
+mark-so Mark p = mark-by Mark p refl
 mark-so Cut p = none-through _ _ _ _ _ _ (cutTo (p .mark) p .state .mark) (cut-mark (p .mark) p refl)
-mark-so Paste p = mark-by Paste p (acted Paste p) refl
+mark-so Paste p = mark-by Paste p refl
+mark-so Newline p = mark-by Newline p refl
+mark-so Tab p = mark-by Tab p refl
 
 -- ---- Nothing is longer than a store
 
--- Whatever comes is a byte, or a text of the state before or behind the key.
-pub come-within : (T Q : ℕ) (k : Key) (p : Plain) (did : Did Plain) → 1 ≤ T → Q ≤ 65536 → T ≤ 65536 → SoundTexts T Q p → SoundTexts T Q (did .state)
-    → let c = changeOf k p did in length (c .put .l) + length (c .put .r) ≤ 65536
-unfolding changeOf
-come-within T Q (Insert b) p did low small large sound after = go (p .mode)
-  where
-    go : (mode : Mode) → let c = ofDocument mode (putting (record { l = b ∷ []; r = [] })) in length (c .put .l) + length (c .put .r) ≤ 65536
-    go Main = omega arith
-    go Quoted = omega arith
-come-within T Q (Function Move way place) p did low small large sound after = omega arith
-come-within T Q (Function Delete way place) p did low small large sound after = go (p .mode) way
-  where
-    go : (mode : Mode) (way : Direction)
-        → let c = ofDocument mode (taking way (did .report .steps)) in length (c .put .l) + length (c .put .r) ≤ 65536
-    go Main Left = omega arith
-    go Main Right = omega arith
-    go Quoted way = omega arith
-come-within T Q Recall p did low small large sound after = go (p .mode)
-  where
-    go : (mode : Mode) → let c = ofDocument mode (putting (p .main .recall)) in length (c .put .l) + length (c .put .r) ≤ 65536
-    go Main = omega (arith, sound .recall .fits)
-    go Quoted = omega arith
-come-within T Q Quote p did low small large sound after = omega arith
-come-within T Q (Find way) p did low small large sound after = omega arith
-come-within T Q Replace p did low small large sound after = go (did .report .bell)
-  where
-    go : (bell : Bool)
-        → let c = cond bell unchanged (record { before = 0; behind = length (did .state .pattern); put = did .state .replacement }) in
-        length (c .put .l) + length (c .put .r) ≤ 65536
-    go true = omega arith
-    go false = omega (arith, after .replacement .fits)
-come-within T Q Mark p did low small large sound after = omega arith
-come-within T Q Cut p did low small large sound after = go (p .mark)
-  where
-    gone : (way : Direction) (n : ℕ) → length (taking way n .put .l) + length (taking way n .put .r) ≤ 65536
-    gone Left n = omega arith
-    gone Right n = omega arith
-
-    go : (mark : Marking) → let c = cutting mark (length (p .main .text .l)) in length (c .put .l) + length (c .put .r) ≤ 65536
-    go Unmarked = omega arith
-    go (At m) = gone (wayTo m (length (p .main .text .l))) (farTo m (length (p .main .text .l)))
-come-within T Q Paste p did low small large sound after = omega (arith, sound .held .fits)
+-- Whatever comes is part of the finished document.
+come-within : (T Q : ℕ) (k : Key) (p : Plain) → T ≤ 65536 → markWithin (size (p .main .text)) (p .mark) ≡ true → SoundTexts T Q (acted k p .state)
+    → size (changeOf k p (acted k p) .put) ≤ 65536
+come-within T Q k p large inside after = omega (arith, large, size-changed k p inside, after .text .fits)
 
 within-more : (n m : ℕ) (mark : Marking) → n ≤ m → markWithin n mark ≡ true → markWithin m mark ≡ true
 within-more n m Unmarked order e = refl
@@ -222,8 +199,8 @@ module _ (Q : ℕ) (n : Lengths) (b : Stores) (sound : Sound Q n b) (k : Key) (o
       after-sound = acted-sound T Q k p ok (has-room none) (encoded .sound .texts)
 
       -- Nothing of it is longer than a store.
-      moderate-by : Q ≤ 65536 → (e : Exchange) → e ≡ inNumbers (changeOf k p did) → Moderate e (length (p .main .text .l)) (did .state .mark)
-      moderate-by small e so =
+      moderate-by : (e : Exchange) → e ≡ inNumbers (changeOf k p did) → Moderate e (length (p .main .text .l)) (did .state .mark)
+      moderate-by e so =
           let known = measured Q b (sound .tabled) in
           let texts = encoded .sound .texts in
           let takes = change-within k p (encoded .sound .mark) in
@@ -232,7 +209,7 @@ module _ (Q : ℕ) (n : Lengths) (b : Stores) (sound : Sound Q n b) (k : Key) (o
             before = takes .before;
             left = omega (arith, texts .text .fits, known .high);
             behind = omega (arith, takes .behind, texts .text .fits, known .high);
-            come = come-within T Q k p did (known .low) small (known .high) texts after-sound;
+            come = come-within T Q k p (known .high) (encoded .sound .mark) after-sound;
             position = within-more _ 65536 (did .state .mark) (omega (arith, texts .text .fits, known .high)) (acted-mark-within k p (encoded .sound .mark));
           })
 
@@ -248,10 +225,10 @@ module _ (Q : ℕ) (n : Lengths) (b : Stores) (sound : Sound Q n b) (k : Key) (o
             position = within-more _ 65536 (did .state .mark) (omega (arith, texts .text .fits, known .high)) (acted-mark-within k p (encoded .sound .mark));
           }
 
-      moderate : Q ≤ 65536 → Moderate (exchangeBy k p did) (length (p .main .text .l)) (did .state .mark)
-      moderate small =
-          ⊎-elim (λ t. subst (λ e. Moderate e (length (p .main .text .l)) (did .state .mark)) (sym (cut-nothing k p did t)) moderate-cut)
-          (λ t. moderate-by small (exchangeBy k p did) (exchange-so k p did t))
+      moderate : Moderate (exchangeBy k p) (length (p .main .text .l)) (did .state .mark)
+      moderate =
+          ⊎-elim (λ t. subst (λ e. Moderate e (length (p .main .text .l)) (did .state .mark)) (sym (cut-nothing k p t)) moderate-cut)
+          (λ t. moderate-by (exchangeBy k p) (exchange-so k p t))
           (decided (cuts k))
 
       pub can-follow : Q ≤ 65536 → Followable k n r
@@ -267,5 +244,5 @@ module _ (Q : ℕ) (n : Lengths) (b : Stores) (sound : Sound Q n b) (k : Key) (o
             replacement = subst (λ a. a .lengths .xl + a .lengths .xr ≤ 65536) (sym reply) (omega (arith, after-sound .replacement .fits, small));
             moderate =
                 subst (λ a. Moderate (exchangeOf k n (a .report) (a .lengths)) (n .main .l) (a .lengths .mark)) (sym reply)
-                (subst (λ m. Moderate (exchangeOf k m (did .report) (lengthsOf (did .state))) (m .main .l) (did .state .mark)) so (moderate small));
+                (subst (λ m. Moderate (exchangeOf k m (did .report) (lengthsOf (did .state))) (m .main .l) (did .state .mark)) so moderate);
           }

@@ -2,11 +2,12 @@
 use mathlib.Core.Path.{_≡_, sym, subst, _∙_}
 use mathlib.Core.Bool.{true}
 use Prim.Native.Nat.{ℕ}
-use Rattle.editor.specs.Words.{Key, Insert, Function, Recall, Quote, Find, Replace, Mark, Cut, Paste}
+use Rattle.editor.specs.Words.{Key, Insert, Function, Recall, Quote, Find, Replace, Mark, Cut, Paste, Newline, Tab}
 use Rattle.editor.specs.Rules.Plain.{Plain, Did, done}
+use Rattle.editor.specs.Rules.Indents.{newlined, tabbed}
 use Rattle.editor.specs.Rules.Keys.{soundKey, inserted, recalled, withReplacement, replaced, markedHere, acted, pressed, fits, key}
 use Rattle.editor.proofs.Laws.Outcomes.{accepted}
-use Rattle.editor.proofs.Laws.Sides.{inserted-sound, recalled-sound}
+use Rattle.editor.proofs.Laws.Sides.{inserted-sound, recalled-sound, newlined-sound, tabbed-sound}
 use Rattle.editor.proofs.Laws.States.{side-sound, on-side-sound, on-side-fits, function-sound, quoted-sound, found-sound}
 use Rattle.editor.specs.Rules.Bytes.{SoundTexts, SoundPlain}
 use Rattle.editor.proofs.Laws.States.{with-replacement-sound, substituted-sound}
@@ -31,6 +32,12 @@ acted-sound T Q Replace p ok room sound =
 acted-sound T Q Mark p ok room sound = marked-sound T Q _ p sound
 acted-sound T Q Cut p ok room sound = cut-sound T Q (p .mark) p sound
 acted-sound T Q Paste p ok room sound = pasted-sound T Q p sound room
+acted-sound T Q Newline p ok room sound =
+    on-side-sound T Q newlined p sound
+    (newlined-sound _ _ (side-sound T Q (p .mode) p sound) (on-side-fits T Q newlined p room))
+acted-sound T Q Tab p ok room sound =
+    on-side-sound T Q tabbed p sound
+    (tabbed-sound _ _ (side-sound T Q (p .mode) p sound) (on-side-fits T Q tabbed p room))
 
 pub fits-acted : (T Q : ℕ) (k : Key) (p : Plain) → fits T Q (pressed k p .state) ≡ fits T Q (acted k p .state)
 unfolding pressed

@@ -8,9 +8,10 @@ use lib.Dec.{eqb, leb, ltb}
 use lib.ListN.{length, drop, length-append}
 use Rattle.gap.proofs.Laws.Holdable.{length-splice}
 use Rattle.editor.specs.Words.{Direction, Mode, Main, Quoted, Marking, Unmarked, At}
-use Rattle.editor.specs.Words.{Key, Insert, Function, Recall, Quote, Find, Replace, Mark, Cut, Paste}
+use Rattle.editor.specs.Words.{Key, Insert, Function, Recall, Quote, Find, Replace, Mark, Cut, Paste, Newline, Tab}
 use Rattle.editor.specs.Rules.Marks.{markThrough, markWithin}
 use Rattle.editor.specs.Rules.Plain.{Plain, quiet, rang, reporting, within}
+use Rattle.editor.specs.Rules.Indents.{newlined, tabbed}
 use Rattle.editor.specs.Rules.Keys.{inserted, function, recalled, withSide, quoted, withPattern, matches, searched, found}
 use Rattle.editor.specs.Rules.Keys.{withReplacement, exchanged, substituted, replaced, markedHere, cutTo, pasted, acted, changeOf, pressed}
 use mathlib.Core.Logic.{⊎-elim}
@@ -96,6 +97,8 @@ marks Replace = false
 marks Mark = true
 marks Cut = true
 marks Paste = false
+marks Newline = false
+marks Tab = false
 
 pub acted-mark : (k : Key) (p : Plain) → marks k ≡ false → acted k p .state .mark ≡ p .mark
 unfolding acted quoted found replaced pasted
@@ -108,6 +111,8 @@ acted-mark Replace p other = replaced-mark (p .mode) p
 acted-mark Mark p other = absurd (false≢true (sym other))
 acted-mark Cut p other = absurd (false≢true (sym other))
 acted-mark Paste p other = refl
+acted-mark Newline p other = on-side-mark newlined p
+acted-mark Tab p other = on-side-mark tabbed p
 
 -- CUT leaves no mark.
 pub cut-mark : (mark : Marking) (p : Plain) → p .mark ≡ mark → cutTo mark p .state .mark ≡ Unmarked
@@ -132,6 +137,8 @@ acted-mark-within Replace p inside = as-before Replace p refl inside
 acted-mark-within Mark p inside = le-leb (length (p .main .text .l)) (size (p .main .text)) (omega arith)
 acted-mark-within Cut p inside = ap (markWithin (size (p .main .text))) (cut-mark (p .mark) p refl)
 acted-mark-within Paste p inside = as-before Paste p refl inside
+acted-mark-within Newline p inside = as-before Newline p refl inside
+acted-mark-within Tab p inside = as-before Tab p refl inside
 
 -- How long the document behind a key is.
 pub size-changed : (k : Key) (p : Plain) → markWithin (size (p .main .text)) (p .mark) ≡ true

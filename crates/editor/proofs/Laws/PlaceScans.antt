@@ -20,7 +20,8 @@ use Rattle.gap.proofs.Laws.Doc.{back-append, moves-left, moves-right, room-move
 use Rattle.gap.proofs.Laws.Nearest.{least-reached, none-nowhere, nearest-same}
 use Rattle.editor.specs.Words.{Direction, Left, Right, Search}
 use Rattle.editor.specs.Words.{Place, Character, Word, LineBeginning, LineEnding, Document}
-use Rattle.editor.specs.Words.{Neighbour, Nothing, Space, Newline, Other}
+use Rattle.editor.specs.Words.{Neighbour}
+use Rattle.editor.specs.declared.Neighbour.the-variants.{Nothing, Space, Newline, Other}
 use Rattle.editor.specs.Rules.Places.{isNewline, emptyOr, isEmpty, lineBeginning, lineEnding, documentEnd, isAt}
 use Rattle.editor.specs.Rules.Places.{neighbourOf, firstNeighbour, leftOf, rightOf, wordBetween, word}
 use Rattle.editor.specs.Wording.Promise.{wholeOf}

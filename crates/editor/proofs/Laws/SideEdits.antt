@@ -2,25 +2,29 @@
 use mathlib.Core.Path.{_≡_, refl, sym, ap, _∙_}
 use mathlib.Core.Bool.{Bool}
 use mathlib.Core.List.{List, [], _∷_}
-use Prim.Native.Nat.{ℕ, _+_, _-_, _≤_, _<_}
+use Prim.Native.Nat.{ℕ, _+_, _-_, _%_, _≤_, _<_}
 use native.Mathlib.Nat.{sub-zero}
 use native.Mathlib.Omega.{arith}
-use lib.ListN.{length, length-append, length-take, length-drop}
+use lib.ListN.{length, take, length-append, length-take, length-drop}
 use lib.Seq.{length-take-le}
 use borrow.Author.Tests.{le-leb, lt-leb}
 use Rattle.gap.specs.Rules.Sequence.{part, zeros}
 use Rattle.gap.specs.Rules.Doc.{Doc, content, room, move, delete, times, passed, removed, splice}
 use Rattle.gap.specs.Rules.Nearest.{distance}
+use Rattle.gap.specs.Rules.Lines.{newline, since}
+use Rattle.gap.specs.Rules.Indents.{space, spaces, indent}
 use Rattle.gap.specs.Rules.Layout.{gapped, paired, ungap, unpair, IsGap}
 use Rattle.gap.proofs.Laws.Tests.{cond-true, cond-false}
 use Rattle.gap.proofs.Laws.Sequence.{length-part}
 use Rattle.gap.proofs.Laws.Doc.{deletions-left, deletions-right, insertions, length-moves, room-moves, room-behind}
+use Rattle.gap.proofs.Laws.Indents.{length-spaces, spaces-suc}
 use Rattle.gap.proofs.Laws.Layout.{length-left, length-right}
 use Rattle.editor.specs.Words.{Direction, Left, Right, Search, Passage, Reached, Nowhere, Action, Move, Delete, Place, Sizes, Report}
 use Rattle.gap.specs.declared.Search.the-variants as found
 use Rattle.editor.specs.declared.SideReply.{SideReply}
 use Rattle.editor.specs.Rules.Plain.{Side, quiet, rang, went, Did, reporting}
 use Rattle.gap.proofs.Laws.Nearest.{reached-least}
+use Rattle.editor.specs.Rules.Indents.{leftward, insertedRun, newlined, tabbed}
 use Rattle.editor.specs.Rules.Keys.{inserted, carried, function, recalled}
 use Rattle.editor.specs.Rules.Places.{isAt}
 use Rattle.editor.specs.Rules.Passages.{withLines, passageTo}
@@ -69,9 +73,9 @@ deletions-shorten : (way : Direction) (d : ℕ) (n : Sizes) → deletedBy way d 
 deletions-shorten Left d n = omega arith
 deletions-shorten Right d n = omega arith
 
--- A pair goes in around the cursor: so do insertion and RECALL.
-abbrev entered : Doc → Side → Did Side
-entered x s = reporting quiet (record { text = splice 0 0 x (s .text); recall = s .recall })
+-- A pair goes in around the cursor: so do insertion, RECALL, NEWLINE and TAB.
+abbrev entered : Report → Doc → Side → Did Side
+entered report x s = reporting report (record { text = splice 0 0 x (s .text); recall = s .recall })
 
 abbrev single : ℕ → Doc
 single b = record { l = b ∷ []; r = [] }
@@ -125,9 +129,9 @@ module _ {n : Sizes} {text recall : List ℕ} (on : OnSide n text recall) where
   held-fits : length (doc .l) + length (doc .r) ≤ length text
   held-fits = rw (left, right) (on .gap .fits)
 
-  -- ---- Insertion and RECALL
+  -- ---- Insertion, RECALL, NEWLINE and TAB
 
-  module _ (x : Doc) where
+  module _ (told : Report) (x : Doc) where
     entered-left : length (splice 0 0 x doc .l) ≡ n .l + length (x .l)
     entered-left = rw (insertions, length-append, left)
 
@@ -135,37 +139,66 @@ module _ {n : Sizes} {text recall : List ℕ} (on : OnSide n text recall) where
     entered-right = rw (insertions, length-append, right) (omega arith)
 
     enters-not : {t : SideReply} → t ≡ fullReply n → length text < n .l + n .r + (length (x .l) + length (x .r))
-        → EditsSide t n (entered x) text recall text recall
+        → EditsSide t n (entered told x) text recall text recall
     enters-not e long = refused n text recall _ e (rw (entered-left, entered-right) (omega arith))
 
     enters : {t : SideReply} {report : Report} {l r : ℕ} {textThen : List ℕ} → t ≡ doneReply report (record { l = l; r = r; rl = n .rl; rr = n .rr })
-        → report ≡ quiet → l + r ≤ length text → l ≡ n .l + length (x .l) → r ≡ n .r + length (x .r)
-        → textThen ≡ gapped (length text) (splice 0 0 x doc) → EditsSide t n (entered x) text recall textThen recall
+        → report ≡ told → l + r ≤ length text → l ≡ n .l + length (x .l) → r ≡ n .r + length (x .r)
+        → textThen ≡ gapped (length text) (splice 0 0 x doc) → EditsSide t n (entered told x) text recall textThen recall
     enters reply said fits l r store =
         landed n text recall _ reply said (rw (entered-left, entered-right) (omega arith))
         (same-sizes (l ∙ sym entered-left) (r ∙ sym entered-right) (sym first) (sym second)) store (sym (on .pair .holds))
 
   pub insert-refused : (b : ℕ) {t : SideReply} → t ≡ fullReply n → length text ≤ n .l + n .r → EditsSide t n (inserted b) text recall text recall
   unfolding inserted
-  insert-refused b e full = enters-not (single b) e (omega arith)
+  insert-refused b e full = enters-not quiet (single b) e (omega arith)
 
   pub insert-done : (b : ℕ) {t : SideReply} {report : Report} {textThen : List ℕ}
       → t ≡ doneReply report (record { l = n .l + 1; r = n .r; rl = n .rl; rr = n .rr }) → report ≡ quiet → n .l + n .r < length text
       → textThen ≡ gapped (length text) (splice 0 0 (single b) doc) → EditsSide t n (inserted b) text recall textThen recall
   unfolding inserted
-  insert-done b reply said room store = enters (single b) reply said (omega arith) refl (omega arith) store
+  insert-done b reply said room store = enters quiet (single b) reply said (omega arith) refl (omega arith) store
 
   pub recall-refused : {t : SideReply} → t ≡ fullReply n → length text - (n .l + n .r) < n .rl + n .rr
       → EditsSide t n recalled text recall text recall
   unfolding recalled
-  recall-refused e full = enters-not pair e (rw (first, second) (omega arith))
+  recall-refused e full = enters-not quiet pair e (rw (first, second) (omega arith))
 
   pub recall-done : {t : SideReply} {report : Report} {textThen : List ℕ}
       → t ≡ doneReply report (record { l = n .l + n .rl; r = n .r + n .rr; rl = n .rl; rr = n .rr }) → report ≡ quiet
       → n .rl + n .rr ≤ length text - (n .l + n .r) → textThen ≡ gapped (length text) (splice 0 0 pair doc)
       → EditsSide t n recalled text recall textThen recall
   unfolding recalled
-  recall-done reply said room store = enters pair reply said (omega (arith, on .gap .fits)) (rw first) (rw second) store
+  recall-done reply said room store = enters quiet pair reply said (omega (arith, on .gap .fits)) (rw first) (rw second) store
+
+  pub spaced-refused : (b k : ℕ) {t : SideReply} → t ≡ fullReply n → length text - (n .l + n .r) ≤ k
+      → EditsSide t n (insertedRun (b ∷ spaces k)) text recall text recall
+  unfolding insertedRun
+  spaced-refused b k e full =
+      enters-not (went (length (b ∷ spaces k)) 0) (leftward (b ∷ spaces k)) e (omega (arith, on .gap .fits, length-spaces k))
+
+  pub spaced-done : (b k : ℕ) {t : SideReply} {report : Report} {textThen : List ℕ}
+      → t ≡ doneReply report (record { l = n .l + (k + 1); r = n .r; rl = n .rl; rr = n .rr }) → report ≡ went (k + 1) 0
+      → k < length text - (n .l + n .r) → textThen ≡ gapped (length text) (splice 0 0 (leftward (b ∷ spaces k)) doc)
+      → EditsSide t n (insertedRun (b ∷ spaces k)) text recall textThen recall
+  unfolding insertedRun
+  spaced-done b k reply said room store =
+      let long : k + 1 ≡ length (b ∷ spaces k) = omega (arith, length-spaces k) in
+      enters (went (length (b ∷ spaces k)) 0) (leftward (b ∷ spaces k)) reply (said ∙ ap (λ m. went m 0) long) (omega (arith, room))
+      (ap (λ m. n .l + m) long) (omega arith) store
+
+  -- NEWLINE with the leading spaces that were counted, and TAB from the column that was.
+  pub by-indent : {t : SideReply} {k : ℕ} {textThen : List ℕ} → k ≡ indent (take (n .l) text)
+      → EditsSide t n (insertedRun (newline ∷ spaces k)) text recall textThen recall → EditsSide t n newlined text recall textThen recall
+  unfolding newlined ungap
+  by-indent counted turns = turns ∙ ap (λ k. written n text recall (insertedRun (newline ∷ spaces k) (sideHeld n text recall))) counted
+
+  pub by-column : {t : SideReply} {column : ℕ} {textThen : List ℕ} → column ≡ since (take (n .l) text)
+      → EditsSide t n (insertedRun (space ∷ spaces (7 - column % 8))) text recall textThen recall → EditsSide t n tabbed text recall textThen recall
+  unfolding tabbed ungap
+  by-column {column = column} counted turns =
+      let one-more : 1 + (7 - column % 8) ≡ 8 - since (take (n .l) text) % 8 = rw counted (omega arith) in
+      turns ∙ ap (λ run. written n text recall (insertedRun run (sideHeld n text recall))) (sym (spaces-suc (7 - column % 8)) ∙ ap spaces one-more)
 
   -- ---- Moves and deletions of d bytes
 

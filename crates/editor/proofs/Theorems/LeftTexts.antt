@@ -14,10 +14,11 @@ use Rattle.gap.specs.Rules.Nearest.{distance}
 use Rattle.gap.specs.declared.Search.the-variants as found
 use Rattle.gap.proofs.Laws.Doc.{moves-left, moves-right, deletions-left, deletions-right}
 use Rattle.editor.specs.Words.{Direction, Left, Right, Search, Action, Move, Delete, Place, Mode, Main, Quoted}
-use Rattle.editor.specs.Words.{Key, Insert, Function, Recall, Quote, Find, Replace, Mark, Cut, Paste}
+use Rattle.editor.specs.Words.{Key, Insert, Function, Recall, Quote, Find, Replace, Mark, Cut, Paste, Newline, Tab}
 use Rattle.editor.specs.Rules.Places.{isAt}
 use Rattle.editor.specs.Rules.Passages.{withLines, passageTo}
 use Rattle.editor.specs.Rules.Plain.{Side, Plain, quiet, rang, Did, reporting}
+use Rattle.editor.specs.Rules.Indents.{insertedRun, newlined, tabbed}
 use Rattle.editor.specs.Rules.Keys.{inserted, carried, function, recalled, sideOf, withSide, onSide, quoted, withPattern, matches, searched, found}
 use Rattle.editor.specs.Rules.Keys.{withReplacement, exchanged, substituted, replaced, markedHere, pasted, acted, pressed}
 use Rattle.gap.proofs.Laws.Tests.{clash}
@@ -123,7 +124,7 @@ replaced-left Quoted p = exchanged-left (withReplacement Quoted p) (matches (p .
 -- CUT alone reports no lines of what it takes.
 pub left-kept : (k : Key) (p : Plain) → cuts k ≡ false
     → LeftKept (p .main .text) (pressed k p .state .main .text) (pressed k p .report .lines)
-unfolding pressed acted inserted function recalled quoted found replaced markedHere pasted
+unfolding pressed acted inserted function recalled quoted found replaced markedHere pasted newlined tabbed insertedRun
 left-kept (Insert b) p other = on-side-left (inserted b) (λ s. inserted-left _ (splice-left 0 _ (s .text))) p
 left-kept (Function action way place) p other = on-side-left (function action way place) (moved-so action way (isAt place way)) p
 left-kept Recall p other = on-side-left recalled (λ s. inserted-left (s .recall .l) (splice-left 0 (s .recall) (s .text))) p
@@ -133,3 +134,5 @@ left-kept Replace p other = replaced-left (p .mode) p
 left-kept Mark p other = stayed refl
 left-kept Cut p other = clash refl other
 left-kept Paste p other = inserted-left (p .held .l) (splice-left 0 (p .held) (p .main .text))
+left-kept Newline p other = on-side-left newlined (λ s. inserted-left _ (splice-left 0 _ (s .text))) p
+left-kept Tab p other = on-side-left tabbed (λ s. inserted-left _ (splice-left 0 _ (s .text))) p

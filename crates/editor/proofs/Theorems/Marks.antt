@@ -15,9 +15,10 @@ use Rattle.gap.specs.Rules.Doc.{Doc, splice, removed}
 use Rattle.gap.proofs.Laws.Tests.{decided}
 use Rattle.gap.proofs.Laws.Doc.{splice-twice}
 use Rattle.editor.specs.Words.{Direction, Left, Right, Move, Delete, Place, Main, Quoted, Marking, Unmarked, At}
-use Rattle.editor.specs.Words.{Key, Insert, Function, Recall, Quote, Find, Replace, Mark, Cut, Paste}
+use Rattle.editor.specs.Words.{Key, Insert, Function, Recall, Quote, Find, Replace, Mark, Cut, Paste, Newline, Tab}
 use Rattle.editor.specs.Rules.Marks.{markThrough, Change, unchanged, putting, taking, markChanged}
 use Rattle.editor.specs.Rules.Plain.{Plain}
+use Rattle.editor.specs.Rules.Indents.{leftward, indentedLine, spacesToTab}
 use Rattle.editor.specs.Rules.Keys.{soundKey, acted, ofDocument, changeOf, pressed}
 use Rattle.editor.proofs.Laws.Changes.{changed, single, size, goes}
 use Rattle.editor.proofs.Laws.Marks.{through-stays, through-gone, through-end, through-behind, through-nothing, marks, acted-mark}
@@ -155,11 +156,13 @@ quoted-leaves Replace p mode ok other = absurd (other refl)
 quoted-leaves Mark p mode ok other = absurd (false≢true ok)
 quoted-leaves Cut p mode ok other = absurd (false≢true ok)
 quoted-leaves Paste p mode ok other = absurd (false≢true ok)
+quoted-leaves Newline p mode ok other = leaves Newline p refl (ap (λ m. ofDocument m (putting (leftward (indentedLine (p .main .text))))) mode)
+quoted-leaves Tab p mode ok other = leaves Tab p refl (ap (λ m. ofDocument m (putting (leftward (spacesToTab (p .main .text))))) mode)
 
 -- What goes in goes in at the cursor, both halves of a pair; what a deletion takes ends or begins there. So each key's change is a stretch from a
 -- position on, and the sentences above say where the mark is behind it.
 module _ (p : Plain) where
-  put-mark : (k : Key) (x : Doc) → marks k ≡ false → changeOf k p (acted k p) ≡ putting x
+  pub put-mark : (k : Key) (x : Doc) → marks k ≡ false → changeOf k p (acted k p) ≡ putting x
       → pressed k p .state .mark ≡ markThrough (length (p .main .text .l)) 0 (size x) (p .mark)
   put-mark k x other same =
       mark-pressed k p other

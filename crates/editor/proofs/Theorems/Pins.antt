@@ -8,7 +8,8 @@ use Rattle.gap.specs.Rules.Sequence.{every, sameBytes, begins, part, zeros}
 use Rattle.gap.specs.Rules.Strings.{bytes}
 use Rattle.gap.specs.Rules.Doc.{move, delete, times, passed, removed, splice}
 use Rattle.gap.specs.Rules.Nearest.{nearest, distance}
-use Rattle.gap.specs.Rules.Lines.{newlines}
+use Rattle.gap.specs.Rules.Lines.{newlines, sinceAfter}
+use Rattle.gap.specs.Rules.Indents.{spaces, leading, indent}
 use Rattle.gap.specs.Rules.Layout.{gapped, paired, ungap, unpair, soundGap, soundPair}
 use Rattle.gap.specs.Tables.Sentence.{allOf, broken, itself}
 use Rattle.gap.specs.Tables.Written.{markedAfter, storedAs}
@@ -17,6 +18,7 @@ use Rattle.editor.specs.Rules.Plain.{Plain, Did, refused, done}
 use Rattle.editor.specs.Rules.Passages.{withLines, passageTo}
 use Rattle.editor.specs.Rules.Places.{lineBeginning, lineEnding, word, documentEnd, isAt}
 use Rattle.editor.specs.Rules.Marks.{markThrough}
+use Rattle.editor.specs.Rules.Indents.{insertedRun, newlined, tabbed}
 use Rattle.editor.specs.Rules.Keys.{soundKey, inserted, carried, function, recalled, onSide, quoted, withPattern, searched, found}
 use Rattle.editor.specs.Rules.Keys.{withReplacement, exchanged, substituted, replaced, markedHere, cutTo, pasted, acted, changeOf, pressed}
 use Rattle.editor.specs.Rules.Keys.{fits, bounded, key, keys}
@@ -26,6 +28,7 @@ use Rattle.editor.specs.Tables.KeyPins.{placePins, editPins}
 use Rattle.editor.specs.Tables.QuotationPins.{quotationPins, searchPins, replacePins}
 use Rattle.editor.specs.Tables.MarkPins.{markPins, changePins}
 use Rattle.editor.specs.Tables.CutPins.{cutPins, pastePins}
+use Rattle.editor.specs.Tables.IndentPins.{newlinePins, tabPins, indentPins, max0, marginPins}
 use Rattle.editor.specs.Tables.SessionPins.{layoutPins, sessionPins}
 
 pub places-pinned : broken onPlain placePins ≡ []
@@ -71,6 +74,21 @@ unfolding sameBytes begins bytes move delete times passed removed splice nearest
     withReplacement exchanged substituted replaced markedHere cutTo pasted acted changeOf markThrough pressed fits bounded key quarter
     unmarked markAfter seeing seenIn
 changes-pinned = refl
+
+pub indents-pinned : broken onPlain (newlinePins ++ tabPins) ≡ []
+unfolding sameBytes bytes move delete times passed removed splice nearest distance withLines passageTo newlines sinceAfter spaces leading
+    indent allOf broken markedAfter isAt soundKey inserted carried function recalled onSide quoted markedHere insertedRun newlined tabbed acted
+    changeOf markThrough pressed fits bounded key quarter unmarked markAfter states statesAll seeing seenIn onPlain
+indents-pinned = refl
+
+pub indent-changes-pinned : broken itself indentPins ≡ []
+unfolding sameBytes bytes move times splice sinceAfter spaces leading indent allOf broken markedAfter isAt soundKey inserted onSide quoted
+    insertedRun newlined tabbed acted changeOf markThrough pressed fits bounded key quarter unmarked markAfter seeing seenIn
+indent-changes-pinned = refl
+
+pub margins-pinned : broken itself marginPins ≡ []
+unfolding sameBytes bytes move times nearest sinceAfter leading indent lineBeginning word max0 allOf broken markedAfter
+margins-pinned = refl
 
 pub layouts-pinned : broken itself layoutPins ≡ []
 unfolding sameBytes part zeros bytes move times splice nearest distance passed withLines passageTo newlines gapped paired ungap unpair allOf

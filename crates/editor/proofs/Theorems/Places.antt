@@ -11,7 +11,8 @@ use Rattle.gap.specs.Rules.Doc.{Doc}
 use Rattle.gap.specs.Rules.Lines.{newline}
 use Rattle.gap.proofs.Laws.Doc.{back-append}
 use Rattle.gap.proofs.Laws.Tests.{decided, clash, or-right}
-use Rattle.editor.specs.Words.{Neighbour, Nothing, Space, Newline, Other}
+use Rattle.editor.specs.Words.{Neighbour}
+use Rattle.editor.specs.declared.Neighbour.the-variants.{Nothing, Space, Newline, Other}
 use Rattle.editor.specs.Rules.Places.{emptyOr, isNewline, lineBeginning, lineEnding, neighbourOf, firstNeighbour, leftOf, rightOf}
 use Rattle.editor.specs.Rules.Places.{wordBetween, word}
 use Rattle.editor.specs.Wording.Neighbours.{blank, AtBeginning, AtEnding, BeforeWord, AtWord}

@@ -1,20 +1,25 @@
 -- Refusals of the plain editor (01, table of refusals): KEY and FULL exactly when the table says, and no others. Then FULL key by
 -- key: room that a key gives back is free for it.
-use mathlib.Core.Path.{_≡_, refl}
+use mathlib.Core.Path.{_≡_, refl, ap, subst}
 use mathlib.Core.Logic.{_⊎_, inl, inr, ⊎-elim, _↔_, Iff·trans, Iff·and}
 use mathlib.Core.Bool.{true, false}
-use mathlib.Core.List.{[], _∷_}
-use Prim.Native.Nat.{ℕ, _+_, _-_, _<_}
+use mathlib.Core.List.{List, [], _∷_, append-nil}
+use Prim.Native.Nat.{ℕ, _+_, _-_, _%_, _<_}
+use native.Mathlib.Omega.{arith}
 use lib.ListN.{length}
 use Rattle.gap.specs.Rules.Doc.{Doc, content, splice}
+use Rattle.gap.specs.Rules.Lines.{since}
+use Rattle.gap.specs.Rules.Indents.{indent}
 use Rattle.gap.specs.Rules.Layout.{allowed}
+use Rattle.gap.proofs.Laws.Indents.{length-spaces}
 use Rattle.gap.proofs.Laws.Tests.{clash}
 use Rattle.editor.specs.Words.{Direction, Left, Right, Action, Move, Delete, Mode, Main, Quoted}
 use Rattle.editor.specs.Words.{Place, Character, Word, LineBeginning, LineEnding, Document}
-use Rattle.editor.specs.Words.{Key, Insert, Function, Recall, Quote, Find, Replace, Mark, Cut, Paste}
+use Rattle.editor.specs.Words.{Key, Insert, Function, Recall, Quote, Find, Replace, Mark, Cut, Paste, Newline, Tab}
 use Rattle.editor.specs.Rules.Refusals.{KEY, FULL}
 use Rattle.editor.specs.Rules.Plain.{Side, Plain, Did, refused, done}
 use Rattle.editor.specs.Rules.Keys.{Unsound, notAllowed, leftToEnding, rightToBeginning, markInQuoted, cutInQuoted, pasteInQuoted, Exceeds}
+use Rattle.editor.specs.Rules.Indents.{leftward, insertedRun, indentedLine, newlined, spacesToTab, tabbed}
 use Rattle.editor.specs.Rules.Keys.{soundFunction, soundKey, inserted, recalled, sideOf, onSide}
 use Rattle.editor.specs.Rules.Keys.{matches, withReplacement, substituted, replaced, markedHere, pasted, acted, pressed, key}
 use Rattle.editor.proofs.Laws.Room.{holds, fits-not, fits-within, keeps-within, on-side-exceeds, length-put, substituted-exceeds}
@@ -52,6 +57,8 @@ unsound Main Cut e = clash refl e
 unsound Quoted Cut e = cutInQuoted
 unsound Main Paste e = clash refl e
 unsound Quoted Paste e = pasteInQuoted
+unsound mode Newline e = clash refl e
+unsound mode Tab e = clash refl e
 
 unsound-fails : (mode : Mode) (k : Key) → Unsound mode k → soundKey mode k ≡ false
 unfolding soundKey
@@ -133,6 +140,29 @@ module _ (T Q : ℕ) (p : Plain) (sound : SoundTexts T Q p) where
       (key T Q Recall p ≡ refused FULL) ↔ (limit T Q (p .mode) < length (content (s .text)) + length (content (s .recall)))
   unfolding pressed acted soundKey recalled
   recall-full = Iff·trans (full-when T Q Recall p refl) (put-full (sideOf (p .mode) p .recall) recalled refl)
+
+  -- NEWLINE and TAB want room for all that they put in. (02, M-105.)
+  run-full : let s = sideOf (p .mode) p in
+      (run : List ℕ) (edit : Side → Did Side) → edit s .state .text ≡ splice 0 0 (leftward run) (s .text)
+      → Exceeds T Q (onSide edit p .state) ↔ (limit T Q (p .mode) < length (content (s .text)) + length run)
+  run-full run edit puts =
+      subst (λ k. Exceeds T Q (onSide edit p .state) ↔ (limit T Q (p .mode) < length (content (sideOf (p .mode) p .text)) + k))
+      (ap length (append-nil run)) (put-full (leftward run) edit puts)
+
+  pub newline-full : let s = sideOf (p .mode) p in
+      (key T Q Newline p ≡ refused FULL) ↔ (limit T Q (p .mode) < length (content (s .text)) + (1 + indent (s .text .l)))
+  unfolding pressed acted soundKey newlined insertedRun
+  newline-full =
+      let s = sideOf (p .mode) p in
+      let long : length (indentedLine (s .text)) ≡ 1 + indent (s .text .l) = omega (arith, length-spaces (indent (s .text .l))) in
+      rw (← long) (Iff·trans (full-when T Q Newline p refl) (run-full (indentedLine (s .text)) newlined refl))
+
+  pub tab-full : let s = sideOf (p .mode) p in
+      (key T Q Tab p ≡ refused FULL) ↔ (limit T Q (p .mode) < length (content (s .text)) + (8 - since (s .text .l) % 8))
+  unfolding pressed acted soundKey tabbed insertedRun
+  tab-full =
+      let s = sideOf (p .mode) p in
+      rw length-spaces at (Iff·trans (full-when T Q Tab p refl) (run-full (spacesToTab (s .text)) tabbed refl))
 
   -- PASTE wants room for the whole held pair, in MAIN; in QUOTED it is no key.
   pub paste-full : p .mode ≡ Main → (key T Q Paste p ≡ refused FULL) ↔ (T < length (content (p .main .text)) + length (content (p .held)))

@@ -3,7 +3,7 @@ use Rattle.gap.specs.Rules.Checks.{Check, check, unless}
 use Rattle.editor.specs.Words.{List, [], _∷_, Bool, true, false, _&&_, cond, ℕ, leb, length, Marking, Unmarked, At}
 use Rattle.editor.specs.Words.{Direction, Left, Right, Passage, Reached, Nowhere, Action, Move, Delete, Mode, Main, Quoted}
 use Rattle.editor.specs.Words.{Place, Character, Word, LineBeginning, LineEnding, Document}
-use Rattle.editor.specs.Words.{Key, Insert, Function, Recall, Quote, Find, Replace, Mark, Cut, Paste}
+use Rattle.editor.specs.Words.{Key, Insert, Function, Recall, Quote, Find, Replace, Mark, Cut, Paste, Newline, Tab}
 use mathlib.Core.Path.{_≡_}
 use mathlib.Core.Logic.{_⊎_}
 use Prim.Native.Nat.{_<_}
@@ -14,6 +14,7 @@ use Rattle.editor.specs.Rules.Places.{isAt}
 use Rattle.editor.specs.Rules.Passages.{passageTo}
 use Rattle.editor.specs.Rules.Marks.{Change, unchanged, putting, taking, markChanged, wayTo, farTo}
 use Rattle.editor.specs.Rules.Plain.{Side, emptySide, Plain, holding, quiet, rang, went, Did, reporting, within, Outcome, refused, done}
+use Rattle.editor.specs.Rules.Indents.{leftward, indentedLine, newlined, spacesToTab, tabbed}
 use Rattle.editor.specs.Rules.Refusals.{KEY, FULL}
 
 -- Of the twenty function keys two are never carried out. (01, refusals: KEY.)
@@ -46,6 +47,8 @@ soundKey mode Replace = true
 soundKey mode Mark = isMain mode
 soundKey mode Cut = isMain mode
 soundKey mode Paste = isMain mode
+soundKey mode Newline = true
+soundKey mode Tab = true
 
 -- ---- Keys on one side
 
@@ -235,6 +238,8 @@ acted Replace p = replaced p
 acted Mark p = markedHere p
 acted Cut p = cut p
 acted Paste p = pasted p
+acted Newline p = onSide newlined p
+acted Tab p = onSide tabbed p
 
 -- What each key changes of the document: an edit in QUOTED nothing, a move or a search nothing, a deletion the bytes that it reports, REPLACE
 -- without a match nothing. That the text behind a key is this change of the text before it: text-changed in proofs/Theorems/Marks.
@@ -259,6 +264,8 @@ changeOf Replace p did =
 changeOf Mark p did = unchanged
 changeOf Cut p did = cutting (p .mark) (length (p .main .text .l))
 changeOf Paste p did = putting (p .held)
+changeOf Newline p did = ofDocument (p .mode) (putting (leftward (indentedLine (p .main .text))))
+changeOf Tab p did = ofDocument (p .mode) (putting (leftward (spacesToTab (p .main .text))))
 
 -- The mark goes through that change. (02, M-101: one rule for every key.)
 abbrev pub followed : Key → Plain → Did Plain → Did Plain

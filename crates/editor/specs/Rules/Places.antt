@@ -1,7 +1,8 @@
 -- The five kinds of place, each a test of a document. (01, plain editor: places.)
 use Rattle.editor.specs.Words.{List, [], _∷_, Bool, true, false, cond, ℕ, eqb, Direction, Left, Right}
 use Rattle.editor.specs.Words.{Place, Character, Word, LineBeginning, LineEnding, Document}
-use Rattle.editor.specs.Words.{Neighbour, Nothing, Space, Newline, Other}
+use Rattle.editor.specs.Words.{Neighbour}
+use Rattle.editor.specs.declared.Neighbour.the-variants.{Nothing, Space, Newline, Other}
 use Rattle.gap.specs.Rules.Sequence.{lastOf}
 use Rattle.gap.specs.Rules.Doc.{Doc}
 use Rattle.gap.specs.Rules.Lines.{newline}

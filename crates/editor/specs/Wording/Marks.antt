@@ -2,7 +2,7 @@
 use mathlib.Core.Path.{_≡_}
 use Prim.Native.Nat.{_≤_}
 use Rattle.editor.specs.Words.{Bool, true, false, cond, ℕ, _+_, _-_, Direction, Left, Right, Mode, Main, Quoted, Marking, Move, Delete}
-use Rattle.editor.specs.Words.{Key, Insert, Function, Recall, Quote, Find, Replace, Mark, Cut, Paste}
+use Rattle.editor.specs.Words.{Key, Insert, Function, Recall, Quote, Find, Replace, Mark, Cut, Paste, Newline, Tab}
 use Rattle.editor.specs.Words.{Sizes, Lengths, Report, Exchange}
 use Rattle.editor.specs.declared.SideReply.{SideReply}
 use Rattle.editor.specs.declared.EditorReply.{EditorReply}
@@ -69,6 +69,8 @@ exchangeOf Replace n report m = cond (report .bell) nothing (record { before = 0
 exchangeOf Mark n report m = nothing
 exchangeOf Cut n report m = nothing
 exchangeOf Paste n report m = coming (n .hl + n .hr)
+exchangeOf Newline n report m = inDocument (n .mode) (coming (report .steps))
+exchangeOf Tab n report m = inDocument (n .mode) (coming (report .steps))
 
 -- CUT is the one key that reports no lines of what it takes from before the cursor.
 abbrev pub cuts : Key → Bool
@@ -81,6 +83,8 @@ cuts Replace = false
 cuts Mark = false
 cuts Cut = true
 cuts Paste = false
+cuts Newline = false
+cuts Tab = false
 
 -- The mark through it, and a key's reply with that mark.
 abbrev pub markExchanged : Exchange → ℕ → Marking → Marking

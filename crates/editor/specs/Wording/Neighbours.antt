@@ -1,6 +1,7 @@
 -- What stands beside the cursor, for every text: theorems say the places with it. (01, plain editor: places.)
 use mathlib.Core.Logic.{_⊎_, _≢_}
-use Rattle.editor.specs.Words.{List, [], _∷_, _++_, Bool, _||_, ℕ, eqb, Neighbour, Nothing, Space, Newline, Other}
+use Rattle.editor.specs.Words.{List, [], _∷_, _++_, Bool, _||_, ℕ, eqb, Neighbour}
+use Rattle.editor.specs.declared.Neighbour.the-variants.{Nothing, Space, Newline, Other}
 use Rattle.gap.specs.Rules.Doc.{Doc}
 use Rattle.gap.specs.Rules.Lines.{newline}
 use Rattle.editor.specs.Rules.Places.{isNewline}

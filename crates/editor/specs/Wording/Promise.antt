@@ -13,6 +13,7 @@ use Rattle.editor.specs.declared.SideReply.{SideReply}
 use Rattle.editor.specs.declared.EditorReply.{EditorReply}
 use Rattle.editor.specs.Rules.Refusals.{FULL}
 use Rattle.editor.specs.Rules.Plain.{Side, Plain, opening, quiet, Did, Outcome}
+use Rattle.editor.specs.Rules.Indents.{newlined, tabbed}
 use Rattle.editor.specs.Rules.Keys.{inserted, function, recalled, matches, substituted, fits}
 use Rattle.editor.specs.Rules.Bytes.{Stores, quarter, quarterOf, sized, sizesOf, plainOf, lengthsOf, storesOf, editorOk, unedited, editedTo, noSizes}
 
@@ -78,6 +79,8 @@ abbrev pub editing : Edit → Side → Did Side
 editing (edits.Insert b) s = inserted b s
 editing (edits.Function action way place) s = function action way place s
 editing edits.Recall s = recalled s
+editing edits.Newline s = newlined s
+editing edits.Tab s = tabbed s
 
 -- ---- All four stores
 

@@ -5,7 +5,7 @@ use Prim.Native.Nat.{ℕ, _+_, _-_, _≤_, _<_}
 use native.Mathlib.Numerals.{add-one}
 use native.Mathlib.Omega.{arith}
 use lib.ListN.{length, take, drop, set, getD, length-set, length-append, length-drop, drop-of-length-le, take-append-drop}
-use lib.ListN.{getD-replicate, replicate-append-replicate}
+use lib.ListN.{replicate, length-replicate, getD-replicate, replicate-append-replicate}
 use lib.Seq.{length-take-le, take-all, take-at, take-suc, take-length, take-append-seam}
 use lib.Seq.{drop-at, drop-cons, drop-length, drop-drop, append-snoc, set-at, set-split}
 use borrow.Rule.Slice.PartMut.{midOf, putMid}
@@ -43,24 +43,24 @@ pub zeros-both : (n m : ℕ) → zeros n ++ zeros m ≡ zeros (n + m)
 unfolding zeros
 zeros-both n m = replicate-append-replicate n m 0
 
-at-zeros : (n i : ℕ) → i < n → 0 ≡ getD (zeros n) i 0
-unfolding zeros
-at-zeros n i h = sym (getD-replicate n i 0 0 h)
+-- Filling a store with b is copying as many of that byte to its front.
+abbrev pub FilledWith : ℕ → List ℕ → ℕ → List ℕ → Type 0
+FilledWith b old i s = Copied (replicate (length old) b) old i s
 
--- Clearing a store is copying as many zeros to its front.
-abbrev pub Cleared : List ℕ → ℕ → List ℕ → Type 0
-Cleared old i s = Copied (zeros (length old)) old i s
+module _ (b : ℕ) where
+  long : (n : ℕ) → length (replicate n b) ≡ n
+  long n = length-replicate n b
 
-pub cleared-none : (old : List ℕ) → Cleared old 0 old
-cleared-none old = copied-none (zeros (length old)) old (rw length-zeros (omega arith))
+  pub filled-none : (old : List ℕ) → FilledWith b old 0 old
+  filled-none old = copied-none (replicate (length old) b) old (rw long (omega arith))
 
-pub cleared-more : {old s : List ℕ} {i : ℕ} → Cleared old i s → i < length s → Cleared old (i + 1) (set s i 0)
-cleared-more {old} {s} {i} h more =
-    let inside : i < length old = omega arith in
-    copied-more h (rw length-zeros inside) (at-zeros (length old) i inside)
+  pub filled-more : {old s : List ℕ} {i : ℕ} → FilledWith b old i s → i < length s → FilledWith b old (i + 1) (set s i b)
+  filled-more {old} {s} {i} h more =
+      let inside : i < length old = omega arith in
+      copied-more h (rw long inside) (sym (getD-replicate (length old) i b 0 inside))
 
-pub cleared-all : {old s : List ℕ} {i : ℕ} → Cleared old i s → length s ≤ i → s ≡ zeros (length old)
-cleared-all {old} {s} {i} h done = copied-all h (rw length-zeros (omega arith)) ∙ rw (length-zeros, drop-length, append-nil)
+  pub filled-all : {old s : List ℕ} {i : ℕ} → FilledWith b old i s → length s ≤ i → s ≡ replicate (length old) b
+  filled-all {old} {s} {i} h done = copied-all h (rw long (omega arith)) ∙ rw (long, drop-length, append-nil)
 
 -- A patch in a store that is long enough keeps its length.
 pub length-patch : (a : ℕ) (run s : List ℕ) → a + length run ≤ length s → length (patch a run s) ≡ length s
@@ -117,10 +117,10 @@ module _ (a d : ℕ) (s : List ℕ) (fits : a + d ≤ length s) where
   unfolding part
   part-lent = let e : a + d - a ≡ d = omega arith in rw e
 
-  pub part-cleared : (t : List ℕ) → t ≡ zeros (length (midOf a (a + d - a) s)) → putMid a (a + d - a) s t ≡ patch a (zeros d) s
-  part-cleared t e =
-      let same : t ≡ zeros d = e ∙ ap zeros (ap length part-lent ∙ length-part a d s fits) in
-      rw same (part-back a (a + d - a) s (zeros d) (length-zeros d ∙ omega arith))
+  pub part-filled : (b : ℕ) (t : List ℕ) → t ≡ replicate (length (midOf a (a + d - a) s)) b → putMid a (a + d - a) s t ≡ patch a (replicate d b) s
+  part-filled b t e =
+      let same : t ≡ replicate d b = e ∙ ap (λ n. replicate n b) (ap length part-lent ∙ length-part a d s fits) in
+      rw same (part-back a (a + d - a) s (replicate d b) (length-replicate d b ∙ omega arith))
 
   -- A part that a pair store holds alone, and one that was copied to the front of a block.
   pub part-held : (n : ℕ) → midOf a (a + d - a) s ++ zeros (n - length (midOf a (a + d - a) s)) ≡ part a d s ++ zeros (n - d)

@@ -4,18 +4,20 @@ use mathlib.Core.List.{List, [], _∷_, _++_, append-assoc, append-nil}
 use Prim.Native.Nat.{ℕ, _+_, _-_, _≤_, _<_}
 use native.Mathlib.Nat.{sub-zero, add-zero, zero-add}
 use native.Mathlib.Omega.{arith}
-use lib.ListN.{length, take, drop, set, length-append, length-drop, take-append-drop}
+use lib.ListN.{length, take, drop, set, replicate, length-replicate, length-append, length-drop, take-append-drop}
 use lib.Seq.{length-take-le, take-length}
 use borrow.Rule.Slice.PartMut.{midOf}
 use Rattle.gap.specs.declared.Direction.{Direction}
 use Rattle.gap.specs.declared.Direction.the-variants.{Left, Right}
 use Rattle.gap.specs.Rules.Sequence.{part, patch, zeros}
 use Rattle.gap.specs.Rules.Doc.{Doc, room, delete, times, passed, removed, splice}
+use Rattle.gap.specs.Rules.Indents.{space, spaces}
 use Rattle.gap.specs.Rules.Layout.{gapped, paired, ungap, unpair, IsGap}
 use Rattle.gap.proofs.Laws.Sequence.{length-part, length-zeros}
 use Rattle.gap.proofs.Laws.Doc.{same-texts, deletions-left, deletions-right, insertions}
 use Rattle.gap.proofs.Laws.Layout.{length-left, length-right}
 use Rattle.gap.proofs.Laws.Runs.{zeros-both, part-middle, patch-none, patch-one, patch-middle, tailOf, tail-lent, part-lent}
+use Rattle.gap.proofs.Laws.Patches.{patch-behind}
 
 -- Two stores that differ in one run of k bytes: at the place, the one has the run and the other has zeros.
 pub record Filled (place k : ℕ) (run full vacant : List ℕ) : Type 0 where
@@ -154,10 +156,22 @@ module _ {l r : ℕ} {s : List ℕ} (gap : IsGap l r s) where
   gap-inserted p h =
       rw (left, right, gap .holds) at (inserted (length s) (ungap l r s) sizes p (rw (left, right) h))
 
+  -- A run goes in at the front of the gap; so does a byte, and a byte with spaces behind it.
+  run-inserted : (run : List ℕ) → l + r + length run ≤ length s
+      → patch l run s ≡ gapped (length s) (splice 0 0 (record { l = run; r = [] }) (ungap l r s))
+  run-inserted run h = sym (patch-none _ (length s - r - 0)) ∙ gap-inserted (record { l = run; r = [] }) (omega arith)
+
   pub inserts : (b : ℕ) → l + r < length s
       → set s l b ≡ gapped (length s) (splice 0 0 (record { l = b ∷ []; r = [] }) (ungap l r s))
-  inserts b h =
-      patch-one s l b (omega arith) ∙ sym (patch-none _ (length s - r - 0)) ∙ gap-inserted (record { l = b ∷ []; r = [] }) (omega arith)
+  inserts b h = patch-one s l b (omega arith) ∙ run-inserted (b ∷ []) (omega arith)
+
+  pub inserts-spaced : (b n : ℕ) → l + r + n < length s
+      → patch (l + 1) (replicate n space) (set s l b) ≡ gapped (length s) (splice 0 0 (record { l = b ∷ spaces n; r = [] }) (ungap l r s))
+  unfolding spaces
+  inserts-spaced b n h =
+      ap (patch (l + 1) (replicate n space)) (patch-one s l b (omega arith))
+      ∙ patch-behind (b ∷ []) (replicate n space) s l 1 refl (omega arith)
+      ∙ run-inserted (b ∷ replicate n space) (omega (arith, length-replicate n space))
 
   pub places : (x y : ℕ) (pair : List ℕ) → l + r + (x + y) ≤ length s → x + y ≤ length pair
       → patch (length s - r - y) (midOf x (x + y - x) pair) (patch l (take x pair) s)

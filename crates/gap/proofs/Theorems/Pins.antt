@@ -7,6 +7,7 @@ use Rattle.gap.specs.Rules.Checks.{firstFailed}
 use Rattle.gap.specs.Rules.Doc.{move, delete, times, passed, removed, splice}
 use Rattle.gap.specs.Rules.Nearest.{nearest, distance}
 use Rattle.gap.specs.Rules.Lines.{newlines, sinceAfter, lines}
+use Rattle.gap.specs.Rules.Indents.{spaces, leading, indent}
 use Rattle.gap.specs.Rules.Layout.{gapped, paired, ungap, unpair, soundGap, soundPair}
 use Rattle.gap.specs.Rules.Decimal.{valueAfter, isNumber, numberOf, digitsIn, decimal}
 use Rattle.gap.specs.Rules.Fields.{lineOf, lineAt, endAt, nextAt, lineNumber, fieldOf, headerAt, entry}
@@ -23,7 +24,7 @@ unfolding sameBytes bytes move delete times passed removed splice nearest distan
 documents-pinned = refl
 
 pub lines-pinned : broken itself linePins ≡ []
-unfolding sameBytes bytes newlines sinceAfter lines allOf broken
+unfolding sameBytes bytes newlines sinceAfter lines spaces leading indent allOf broken markedAfter
 lines-pinned = refl
 
 pub stores-pinned : broken itself storePins ≡ []

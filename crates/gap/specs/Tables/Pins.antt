@@ -7,6 +7,7 @@ use Rattle.gap.specs.Rules.Checks.{check, unless, firstFailed}
 use Rattle.gap.specs.Rules.Doc.{empty, content, room, move, delete, times, passed, removed, splice}
 use Rattle.gap.specs.Rules.Nearest.{nearest, distance}
 use Rattle.gap.specs.Rules.Lines.{newlines, sinceAfter, since, lines}
+use Rattle.gap.specs.Rules.Indents.{space, spaces, leading, currentLine, indent}
 use Rattle.gap.specs.Rules.Layout.{printable, allowed, free, spare, gapped, paired, ungap, unpair, soundGap, soundPair}
 use Rattle.gap.specs.Rules.Decimal.{digit, worth, value, isNumber, numberOf, wordDigits, decimal}
 use Rattle.gap.specs.Rules.Fields.{lineOf, lineAt, endAt, ended, nextAt, lineNumber, fieldOf, headerAt, entry}
@@ -143,6 +144,29 @@ linePins =
     ∷ eqb (since (bytes "abc")) 3
     ∷ eqb (sinceAfter 4 (bytes "ab")) 6
     ∷ eqb (sinceAfter 4 (bytes "a\nb")) 1
+    ∷ [])
+    ∷ sentence "M-105: the spaces that a text begins with, and no others"
+    (eqb (leading (bytes "  foo bar")) 2
+    ∷ eqb (leading (bytes "foo")) 0
+    ∷ eqb (leading (bytes "   ")) 3
+    ∷ eqb (leading (bytes "")) 0
+    ∷ eqb (leading (bytes "\n  foo")) 0
+    ∷ eqb (leading (bytes " a b")) 1
+    ∷ sameBytes (spaces 3) (bytes "   ")
+    ∷ sameBytes (spaces 0) []
+    ∷ eqb space 32
+    ∷ [])
+    ∷ sentence "M-105: leading spaces of the current line left of the cursor, those of other lines and those right of it not counted"
+    (isBytes (currentLine (bytes "ab\n  cd")) "  cd"
+    ∷ isBytes (currentLine (bytes "  cd")) "  cd"
+    ∷ isBytes (currentLine (bytes "ab\n")) ""
+    ∷ eqb (indent (bytes "ab\n  cd")) 2
+    ∷ eqb (indent (bytes "  ab\ncd")) 0
+    ∷ eqb (indent (bytes "  ab\n")) 0
+    ∷ eqb (indent (bytes "foo")) 0
+    ∷ eqb (indent (marked "  ab\n | cd" .l)) 1
+    ∷ eqb (indent (marked "|  foo" .l)) 0
+    ∷ eqb (indent (bytes "  foo  bar")) 2
     ∷ [])
     ∷ []
 

@@ -10,7 +10,7 @@ use Rattle.gap.proofs.Laws.Tests.{decided, clash, and-left, and-right, and-both
 use Rattle.gap.specs.Rules.Numbers.{bit}
 use Rattle.window.specs.Words.{Marking, Unmarked, At, Mode, Main, Quoted, Session, Answer, Direction, Left, Right, Action, Move, Delete}
 use Rattle.window.specs.Words.{Place, Character, Word, LineBeginning, LineEnding, Document}
-use Rattle.window.specs.Words.{Key, Insert, Function, Recall, Quote, Find, Replace, Mark, Cut, Paste}
+use Rattle.window.specs.Words.{Key, Insert, Function, Recall, Quote, Find, Replace, Mark, Cut, Paste, Newline, Tab}
 use Rattle.window.specs.declared.host.Record.{Record}
 use Rattle.window.specs.declared.host.Said.{Said}
 use Rattle.window.specs.Rules.Host.{modeOf, modeNumber, noMark, markFrom, markNumber, sessionFrom, recordFrom, saidOf, answerFrom, none}
@@ -124,6 +124,8 @@ key-over Replace low = (refl, refl)
 key-over Mark low = (refl, refl)
 key-over Cut low = (refl, refl)
 key-over Paste low = (refl, refl)
+key-over Newline low = (refl, refl)
+key-over Tab low = (refl, refl)
 
 action-back : (a : ℕ) → leb a 1 ≡ true → actionNumber (actionFrom a) ≡ a
 action-back zero low = refl
@@ -143,7 +145,7 @@ place-back (suc (suc (suc zero))) low = refl
 place-back (suc (suc (suc (suc zero)))) low = refl
 place-back (suc (suc (suc (suc (suc p))))) low = absurd (omega (arith, leb-true (suc (suc (suc (suc (suc p))))) 4 low))
 
--- A kind is one of the nine, or above 8 and then none of them.
+-- A kind is one of the eleven, or above 10 and then none of them.
 record Above (kind : ℕ) : Type 0 where
   k0 : eqb kind 0 ≡ false
   k1 : eqb kind 1 ≡ false
@@ -154,9 +156,11 @@ record Above (kind : ℕ) : Type 0 where
   k6 : eqb kind 6 ≡ false
   k7 : eqb kind 7 ≡ false
   k8 : eqb kind 8 ≡ false
-  high : leb kind 8 ≡ false
+  k9 : eqb kind 9 ≡ false
+  k10 : eqb kind 10 ≡ false
+  high : leb kind 10 ≡ false
 
-is-above : (kind : ℕ) → 8 < kind → Above kind
+is-above : (kind : ℕ) → 10 < kind → Above kind
 is-above kind high =
     record {
       k0 = ne-eqb kind 0 (λ e. omega arith);
@@ -168,27 +172,32 @@ is-above kind high =
       k6 = ne-eqb kind 6 (λ e. omega arith);
       k7 = ne-eqb kind 7 (λ e. omega arith);
       k8 = ne-eqb kind 8 (λ e. omega arith);
-      high = lt-leb kind 8 high;
+      k9 = ne-eqb kind 9 (λ e. omega arith);
+      k10 = ne-eqb kind 10 (λ e. omega arith);
+      high = lt-leb kind 10 high;
     }
 
-by-kind : (P : ℕ → Type 0) → P 0 → P 1 → P 2 → P 3 → P 4 → P 5 → P 6 → P 7 → P 8 → ((kind : ℕ) → Above kind → P kind) → (kind : ℕ) → P kind
-by-kind P p0 p1 p2 p3 p4 p5 p6 p7 p8 above zero = p0
-by-kind P p0 p1 p2 p3 p4 p5 p6 p7 p8 above (suc zero) = p1
-by-kind P p0 p1 p2 p3 p4 p5 p6 p7 p8 above (suc (suc zero)) = p2
-by-kind P p0 p1 p2 p3 p4 p5 p6 p7 p8 above (suc (suc (suc zero))) = p3
-by-kind P p0 p1 p2 p3 p4 p5 p6 p7 p8 above (suc (suc (suc (suc zero)))) = p4
-by-kind P p0 p1 p2 p3 p4 p5 p6 p7 p8 above (suc (suc (suc (suc (suc zero))))) = p5
-by-kind P p0 p1 p2 p3 p4 p5 p6 p7 p8 above (suc (suc (suc (suc (suc (suc zero)))))) = p6
-by-kind P p0 p1 p2 p3 p4 p5 p6 p7 p8 above (suc (suc (suc (suc (suc (suc (suc zero))))))) = p7
-by-kind P p0 p1 p2 p3 p4 p5 p6 p7 p8 above (suc (suc (suc (suc (suc (suc (suc (suc zero)))))))) = p8
-by-kind P p0 p1 p2 p3 p4 p5 p6 p7 p8 above (suc (suc (suc (suc (suc (suc (suc (suc (suc kind))))))))) =
-    let high : 8 < suc (suc (suc (suc (suc (suc (suc (suc (suc kind)))))))) = omega arith in
-    above (suc (suc (suc (suc (suc (suc (suc (suc (suc kind))))))))) (is-above _ high)
+by-kind : (P : ℕ → Type 0) → P 0 → P 1 → P 2 → P 3 → P 4 → P 5 → P 6 → P 7 → P 8 → P 9 → P 10
+    → ((kind : ℕ) → Above kind → P kind) → (kind : ℕ) → P kind
+by-kind P p0 p1 p2 p3 p4 p5 p6 p7 p8 p9 p10 above zero = p0
+by-kind P p0 p1 p2 p3 p4 p5 p6 p7 p8 p9 p10 above (suc zero) = p1
+by-kind P p0 p1 p2 p3 p4 p5 p6 p7 p8 p9 p10 above (suc (suc zero)) = p2
+by-kind P p0 p1 p2 p3 p4 p5 p6 p7 p8 p9 p10 above (suc (suc (suc zero))) = p3
+by-kind P p0 p1 p2 p3 p4 p5 p6 p7 p8 p9 p10 above (suc (suc (suc (suc zero)))) = p4
+by-kind P p0 p1 p2 p3 p4 p5 p6 p7 p8 p9 p10 above (suc (suc (suc (suc (suc zero))))) = p5
+by-kind P p0 p1 p2 p3 p4 p5 p6 p7 p8 p9 p10 above (suc (suc (suc (suc (suc (suc zero)))))) = p6
+by-kind P p0 p1 p2 p3 p4 p5 p6 p7 p8 p9 p10 above (suc (suc (suc (suc (suc (suc (suc zero))))))) = p7
+by-kind P p0 p1 p2 p3 p4 p5 p6 p7 p8 p9 p10 above (suc (suc (suc (suc (suc (suc (suc (suc zero)))))))) = p8
+by-kind P p0 p1 p2 p3 p4 p5 p6 p7 p8 p9 p10 above (suc (suc (suc (suc (suc (suc (suc (suc (suc zero))))))))) = p9
+by-kind P p0 p1 p2 p3 p4 p5 p6 p7 p8 p9 p10 above (suc (suc (suc (suc (suc (suc (suc (suc (suc (suc zero)))))))))) = p10
+by-kind P p0 p1 p2 p3 p4 p5 p6 p7 p8 p9 p10 above (suc (suc (suc (suc (suc (suc (suc (suc (suc (suc (suc kind))))))))))) =
+    let high : 10 < suc (suc (suc (suc (suc (suc (suc (suc (suc (suc (suc kind)))))))))) = omega arith in
+    above (suc (suc (suc (suc (suc (suc (suc (suc (suc (suc (suc kind))))))))))) (is-above _ high)
 
 module _ {kind : ℕ} (above : Above kind) (a b c : ℕ) where
   above-none : keyFrom kind a b c ≡ none
   unfolding keyFrom
-  above-none = rw (above .k0, above .k1, above .k2, above .k3, above .k4, above .k5, above .k6, above .k7, above .k8)
+  above-none = rw (above .k0, above .k1, above .k2, above .k3, above .k4, above .k5, above .k6, above .k7, above .k8, above .k9, above .k10)
 
   above-looked : lookedAt (numbers kind a b c) ≡ numbers kind 0 0 0
   above-looked = rw (above .k1, above .k0, above .k4)
@@ -210,6 +219,8 @@ unnamed x =
     (λ e. clash refl e)
     (λ e. clash refl e)
     (λ e. clash refl e)
+    (λ e. clash refl e)
+    (λ e. clash refl e)
     (λ kind above e. above-none above (x .a) (x .b) (x .c))
     (x .kind)
 
@@ -218,6 +229,8 @@ pub unlooked : (x : KeyNumbers) → keyOf (lookedAt x) ≡ keyOf x
 unfolding keyFrom
 unlooked x =
     by-kind (λ kind. let y = numbers kind (x .a) (x .b) (x .c) in keyOf (lookedAt y) ≡ keyOf y)
+    refl
+    refl
     refl
     refl
     refl
@@ -240,6 +253,8 @@ zeros-name x =
     (λ e. refl)
     (λ e. refl)
     (λ e. absurd (omega (arith, ap (λ y. y .kind) e)))
+    (λ e. refl)
+    (λ e. refl)
     (λ e. refl)
     (λ e. refl)
     (λ e. refl)
@@ -267,6 +282,8 @@ names-exactly x = (
       (λ low. refl)
       (λ low. refl)
       (λ low. rw (low, direction-back (x .a) low))
+      (λ low. refl)
+      (λ low. refl)
       (λ low. refl)
       (λ low. refl)
       (λ low. refl)

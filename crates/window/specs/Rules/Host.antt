@@ -2,7 +2,7 @@
 use Rattle.window.specs.Words.{Bool, true, _&&_, _||_, cond, ℕ, eqb, leb, Marking, Unmarked, At}
 use Rattle.window.specs.Words.{Left, Right, Direction, Action, Move, Delete, Mode, Main, Quoted}
 use Rattle.window.specs.Words.{Place, Character, Word, LineBeginning, LineEnding, Document}
-use Rattle.window.specs.Words.{Session, Answer, Key, Insert, Function, Recall, Quote, Find, Replace, Mark, Cut, Paste}
+use Rattle.window.specs.Words.{Session, Answer, Key, Insert, Function, Recall, Quote, Find, Replace, Mark, Cut, Paste, Newline, Tab}
 use Rattle.editor.specs.Rules.Refusals.{SIZE, SESSION}
 use Rattle.editor.specs.Rules.Plain.{Plain}
 use Rattle.editor.specs.Rules.Bytes.{Stores}
@@ -121,7 +121,9 @@ keyFrom kind a b c =
     (cond (eqb kind 5) Replace
     (cond (eqb kind 6) Mark
     (cond (eqb kind 7) Cut
-    (cond (eqb kind 8) Paste none))))))))
+    (cond (eqb kind 8) Paste
+    (cond (eqb kind 9) Newline
+    (cond (eqb kind 10) Tab none))))))))))
 
 -- The four numbers as one value.
 pub record KeyNumbers : Type 0 where
@@ -137,12 +139,12 @@ abbrev pub keyOf : KeyNumbers → Key
 keyOf x = keyFrom (x .kind) (x .a) (x .b) (x .c)
 
 -- Which numbers name a key: an insert's byte is at most 255; a function key's numbers are at most 1, 1 and 4; a search's is at most 1;
--- and there is no kind above 8.
+-- and there is no kind above 10.
 abbrev pub names : KeyNumbers → Bool
 names x =
     cond (eqb (x .kind) 0) (leb (x .a) 255)
     (cond (eqb (x .kind) 1) (leb (x .a) 1 && (leb (x .b) 1 && leb (x .c) 4))
-    (cond (eqb (x .kind) 4) (leb (x .a) 1) (leb (x .kind) 8)))
+    (cond (eqb (x .kind) 4) (leb (x .a) 1) (leb (x .kind) 10)))
 
 -- Those that are looked at: all of a function key's, the first of an insert's and of a search's, else the kind alone.
 abbrev pub lookedAt : KeyNumbers → KeyNumbers
@@ -176,6 +178,8 @@ numbersOfKey Replace = numbers 5 0 0 0
 numbersOfKey Mark = numbers 6 0 0 0
 numbersOfKey Cut = numbers 7 0 0 0
 numbersOfKey Paste = numbers 8 0 0 0
+numbersOfKey Newline = numbers 9 0 0 0
+numbersOfKey Tab = numbers 10 0 0 0
 
 -- A key that can be pressed: an insert is of a byte.
 abbrev pub ofByte : Key → Bool
@@ -188,6 +192,8 @@ ofByte Replace = true
 ofByte Mark = true
 ofByte Cut = true
 ofByte Paste = true
+ofByte Newline = true
+ofByte Tab = true
 
 -- ---- The answer
 

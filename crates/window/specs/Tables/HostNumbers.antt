@@ -3,7 +3,7 @@
 use Prim.Native.String.{String}
 use Rattle.window.specs.Words.{List, [], _∷_, _++_, map, cond, ℕ, _-_, _*_, eqb, length}
 use Rattle.window.specs.Words.{Left, Right, Move, Delete, Character, Word, LineBeginning, LineEnding, Document}
-use Rattle.window.specs.Words.{Key, Insert, Function, Recall, Quote, Find, Replace, Mark, Cut, Paste}
+use Rattle.window.specs.Words.{Key, Insert, Function, Recall, Quote, Find, Replace, Mark, Cut, Paste, Newline, Tab}
 use Rattle.gap.specs.Rules.Sequence.{zeros}
 use Rattle.gap.specs.Rules.Strings.{bytes}
 use Rattle.editor.specs.Rules.Bytes.{quarter}
@@ -57,11 +57,17 @@ keyRows =
     ∷ named 6 99 99 99 Mark
     ∷ named 7 99 99 99 Cut
     ∷ named 8 99 99 99 Paste
+    ∷ named 9 99 99 99 Newline
+    ∷ named 10 99 99 99 Tab
     ∷ []
+
+-- One more than the largest of the kinds.
+abbrev pub noKind : KeyNumbers
+noKind = numbers 11 0 0 0
 
 -- Numbers that name no key: one more than the largest of each kind, and of the kinds.
 abbrev pub noKeys : List KeyNumbers
-noKeys = numbers 0 256 0 0 ∷ numbers 1 2 0 0 ∷ numbers 1 0 2 0 ∷ numbers 1 0 0 5 ∷ numbers 4 2 0 0 ∷ numbers 9 0 0 0 ∷ []
+noKeys = numbers 0 256 0 0 ∷ numbers 1 2 0 0 ∷ numbers 1 0 2 0 ∷ numbers 1 0 0 5 ∷ numbers 4 2 0 0 ∷ noKind ∷ []
 
 -- ---- Calls
 
@@ -141,7 +147,7 @@ callRows =
     -- An insert; a move that finds no place; numbers that name no key.
     ∷ calls "bc" (numbers 0 97 0 0 ∷ []) (said 0 0 0 0 0 1 1 1 1) (back 1 2 0 0 0 0 0 0 0 0 0 0 0 0 5 6 0 0 unmarked)
     ∷ calls "bc" (numbers 1 0 0 0 ∷ []) (said 0 0 0 0 1 0 0 1 0) (back 0 2 0 0 0 0 0 0 0 0 0 0 0 0 5 6 0 0 unmarked)
-    ∷ calls "bc" (numbers 9 0 0 0 ∷ []) (said 5 0 0 0 0 0 0 0 0) (back 0 2 0 0 0 0 0 0 0 0 0 0 0 0 5 6 0 0 unmarked)
+    ∷ calls "bc" (noKind ∷ []) (said 5 0 0 0 0 0 0 0 0) (back 0 2 0 0 0 0 0 0 0 0 0 0 0 0 5 6 0 0 unmarked)
     -- Right to the line's ending, and then right to the document's end is deleted: seven bytes, four of them newlines, in rows 4 and 5. RECALL puts them back.
     ∷ calls "ab$$$ef$g" (numbers 1 0 1 3 ∷ numbers 1 1 1 4 ∷ []) (said 0 0 7 4 0 4 5 1 2) (back 2 0 0 0 0 7 0 0 0 0 0 0 0 0 5 6 0 0 unmarked)
     ∷ calls "ab$$$ef$g" (numbers 1 0 1 3 ∷ numbers 1 1 1 4 ∷ numbers 2 0 0 0 ∷ []) (said 0 0 0 0 0 4 5 1 2)
@@ -189,7 +195,7 @@ refuses handed cells code = record { handed = handed; cells = cells; code = code
 
 -- The key has numbers that name none: SIZE and SESSION come before KEY.
 unfoldable pub refusedReply : RefusedRow → HostReply
-refusedReply row = replyOf (hostPressed (row .handed) (numbers 9 0 0 0) (storesFor [] (row .cells)))
+refusedReply row = replyOf (hostPressed (row .handed) noKind (storesFor [] (row .cells)))
 
 abbrev pub refusedRows : List RefusedRow
 refusedRows =

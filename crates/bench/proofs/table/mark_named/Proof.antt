@@ -24,7 +24,7 @@ unfolding markNamed bytes
 returns-4 c =
     let paste : tie.Else3 = search in let cut : tie.Else2 = search in let mark : tie.Else1 = search in
     rw (sym (mark .before .same-bytes .ensures) ∙ mark .if1 .left, sym (cut .before .same-bytes2 .ensures) ∙ cut .if2 .left)
-    (rw (sym (paste .before .same-bytes3 .ensures) ∙ paste .if3 .left) (c .function-named .ensures))
+    (rw (sym (paste .before .same-bytes3 .ensures) ∙ paste .if3 .left) (c .indent-named .ensures))
 
 pub mark-named-spec : {M : Type 1} → statement M
 mark-named-spec = tie.close (tie.spec
@@ -37,5 +37,5 @@ mark-named-spec = tie.close (tie.spec
     (λ c. search needs)  -- slice-aggregate-same-bytes-3
     (λ c κs. search needs)  -- same-bytes-requires-3
     returns-3
-    (λ c κs. search needs)  -- function-named-requires
+    (λ c κs. search needs)  -- indent-named-requires
     returns-4)

@@ -82,6 +82,18 @@ returns-9 c =
     let done : tie.After-paste-key = search in let known : tie.After-enum-told6 = search in let start : tie.Start = search in
     rw (known .enum-told6 .given .1) (done .paste-key .ensures _ _ (start .pre))
 
+returns-10 : tie.Need-returns-10
+unfolding acted
+returns-10 c =
+    let done : tie.After-edit-key4 = search in let known : tie.After-enum-told7 = search in let start : tie.Start = search in
+    rw (known .enum-told7 .given .1) (done .edit-key4 .ensures _ (start .pre))
+
+returns-11 : tie.Need-returns-11
+unfolding acted
+returns-11 c =
+    let done : tie.After-edit-key5 = search in let known : tie.After-enum-told8 = search in let start : tie.Start = search in
+    rw (known .enum-told8 .given .1) (done .edit-key5 .ensures _ (start .pre))
+
 pub act-spec : {M : Type 1} → statement M
 act-spec = tie.close (tie.spec
     (λ c. search needs)  -- enum-known-k
@@ -102,6 +114,10 @@ act-spec = tie.close (tie.spec
     cut-key-requires
     (λ c. search needs)  -- enum-told-6
     paste-key-requires
+    (λ c. search needs)  -- enum-told-7
+    (λ c κs. search needs)  -- edit-key-requires-4
+    (λ c. search needs)  -- enum-told-8
+    (λ c κs. search needs)  -- edit-key-requires-5
     (λ c. search needs) (λ c. search needs) (λ c. search needs)  -- same-length .. same-length-3
     returns
     (λ c. search needs) (λ c. search needs) (λ c. search needs)  -- same-length-4 .. same-length-6
@@ -117,4 +133,8 @@ act-spec = tie.close (tie.spec
     (λ c. search needs) (λ c. search needs)  -- same-length-16 .. same-length-17
     returns-8
     (λ c. search needs) (λ c. search needs)  -- same-length-18 .. same-length-19
-    returns-9)
+    returns-9
+    (λ c. search needs) (λ c. search needs) (λ c. search needs)  -- same-length-20 .. same-length-22
+    returns-10
+    (λ c. search needs) (λ c. search needs) (λ c. search needs)  -- same-length-23 .. same-length-25
+    returns-11)

@@ -41,6 +41,14 @@ returns-9 : tie.Need-returns-9
 unfolding soundKey
 returns-9 c = c .is-main3 .ensures ∙ ap (soundKey _) (sym (c .before .enum-told7 .given .1))
 
+returns-10 : tie.Need-returns-10
+unfolding soundKey
+returns-10 c = ap (soundKey _) (sym (c .enum-told8 .given .1))
+
+returns-11 : tie.Need-returns-11
+unfolding soundKey
+returns-11 c = ap (soundKey _) (sym (c .enum-told9 .given .1))
+
 pub sound-key-spec : {M : Type 1} → statement M
 sound-key-spec = tie.close (tie.spec
     (λ c. search needs)  -- enum-known-k
@@ -53,4 +61,5 @@ sound-key-spec = tie.close (tie.spec
     (λ c κs. search needs)  -- is-main-requires-2
     (λ c. search needs)  -- enum-told-7
     (λ c κs. search needs)  -- is-main-requires-3
-    returns returns-2 returns-3 returns-4 returns-5 returns-6 returns-7 returns-8 returns-9)
+    (λ c. search needs) (λ c. search needs)  -- enum-told-8 .. enum-told-9
+    returns returns-2 returns-3 returns-4 returns-5 returns-6 returns-7 returns-8 returns-9 returns-10 returns-11)

@@ -52,6 +52,18 @@ returns-10 : tie.Need-returns-10
 unfolding exchangeOf
 returns-10 c = let told : tie.After-enum-told10 = search in rw (told .enum-told10 .given .1) (c .coming3 .ensures)
 
+returns-11 : tie.Need-returns-11
+unfolding exchangeOf
+returns-11 c =
+    let told : tie.After-enum-told11 = search in let come : tie.After-coming4 = search in
+    rw (told .enum-told11 .given .1, c .in-document4 .ensures, come .coming4 .ensures)
+
+returns-12 : tie.Need-returns-12
+unfolding exchangeOf
+returns-12 c =
+    let told : tie.After-enum-told12 = search in let come : tie.After-coming5 = search in
+    rw (told .enum-told12 .given .1, c .in-document5 .ensures, come .coming5 .ensures)
+
 pub exchange-of-spec : {M : Type 1} → statement M
 exchange-of-spec = tie.close (tie.spec
     (λ c. search needs)  -- enum-told
@@ -70,4 +82,10 @@ exchange-of-spec = tie.close (tie.spec
     (λ c. search needs) (λ c. search needs) (λ c. search needs)  -- enum-told-8 .. enum-told-10
     (λ c. search needs)  -- add-coming-2
     (λ c κs. search needs)  -- coming-requires-3
-    returns returns-2 returns-3 returns-4 returns-5 returns-6 returns-7 returns-8 returns-9 returns-10)
+    (λ c. search needs)  -- enum-told-11
+    (λ c κs. search needs)  -- coming-requires-4
+    (λ c κs. search needs)  -- in-document-requires-4
+    (λ c. search needs)  -- enum-told-12
+    (λ c κs. search needs)  -- coming-requires-5
+    (λ c κs. search needs)  -- in-document-requires-5
+    returns returns-2 returns-3 returns-4 returns-5 returns-6 returns-7 returns-8 returns-9 returns-10 returns-11 returns-12)

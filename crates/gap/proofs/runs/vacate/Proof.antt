@@ -1,15 +1,15 @@
--- `vacate` patches the store with zeros: the part that is lent comes back cleared.
+-- `vacate` patches the store with zeros.
 use borrow.Author.Needs.{needs}
-use Rattle.gap.proofs.Laws.Runs.{part-cleared}
+use Rattle.gap.specs.Rules.Sequence.{zeros}
 use Rattle.gap.proofs.runs.vacate.Statement.{statement}
 use Rattle.gap.proofs.runs.vacate.Tie as tie
 
+returns : tie.Need-returns
+unfolding zeros
+returns c = let filled : tie.After-fill-at = search in filled .fill-at .ensures
+
 pub vacate-spec : {M : Type 1} → statement M
 vacate-spec = tie.close (tie.spec
-    (λ c. search needs)  -- add-end
-    (λ c. search needs)  -- sub-clear
-    (λ c. search needs)  -- part-clear-start
-    (λ c. search needs)  -- part-clear-end
-    (λ c κs. search needs)  -- clear-requires
+    (λ c κs. search needs)  -- fill-at-requires
     (λ c. search needs)  -- same-length
-    (λ c. part-cleared _ _ _ (c .before .before .before .before .before .pre) _ (c .before .before .clear .ensures)))  -- returns
+    returns)
