@@ -55,10 +55,9 @@ fn both(record: Record, key: Key, stores: &mut Stores, counts: &mut Counts) -> R
     reply
 }
 
-/// A text of at most t bytes with lines of a few letters as a rule, so that none of 5,000 bytes has a line that is too long.
+/// A text of at most t bytes with lines of a few letters: one that is too long does not come up.
 fn short_lines(random: &mut Random, t: usize) -> Vec<u8> {
-    let n = random.below(t + 1);
-    (0..n).map(|i| if i % 1_000 == 999 { b'\n' } else { letter(random) }).collect()
+    (0..random.below(t + 1)).map(|_| letter(random)).collect()
 }
 
 /// One with lines about as long as a line may be, and empty and short ones between them: joined or typed on they soon are too long.
