@@ -123,7 +123,7 @@ module _ (limit : ℕ) where
   after-append n (b ∷ s) t =
       after-byte n b (s ++ t)
       ∙ append-with (eqb b newline) n (leb n limit) (λ m. linesFitAfter limit m (s ++ t)) (λ m. linesFitAfter limit m s)
-          (λ m. linesFitAfter limit (sinceAfter m s) t) (λ m. after-append m s t)
+      (λ m. linesFitAfter limit (sinceAfter m s) t) (λ m. after-append m s t)
       ∙ ap (λ fit. fit && linesFitAfter limit (sinceAfter (cond (eqb b newline) 0 (suc n)) s) t) (sym (after-byte n b s))
 
   pub fit-append : (s t : List ℕ) → linesFit limit (s ++ t) ≡ (linesFit limit s && linesFitAfter limit (since s) t)
@@ -211,7 +211,7 @@ module _ (limit : ℕ) where
       ∙ ap (λ fit. fit && linesFitAfter limit at-x (x ++ (y ++ behind))) fits
       ∙ after-append at-x x (y ++ behind)
       ∙ ap (λ rest. linesFitAfter limit at-x x && rest)
-          (after-append at-y y behind ∙ ap (λ last. linesFitAfter limit at-y y && last) (after-joined (sinceAfter at-y y) behind also))
+      (after-append at-y y behind ∙ ap (λ last. linesFitAfter limit at-y y && last) (after-joined (sinceAfter at-y y) behind also))
 
   spaced-fits : (is : Bool) (n k : ℕ) → n ≤ limit → cond is k (n + 1 + k) ≤ limit
       → cond is (leb n limit && linesFitAfter limit 0 (spaces k)) (linesFitAfter limit (suc n) (spaces k)) ≡ true
@@ -227,14 +227,14 @@ module _ (limit : ℕ) where
       let at-front = fit-left front behind fits in
       fit-append (front ++ run) behind
       ∙ ap (λ fit. linesFit limit (front ++ run) && fit)
-          (after-joined (since (front ++ run)) behind (fit-right front behind fits)
-          ∙ ap (λ at. leb (at + length (lineOf behind)) limit) (since-spaced b k front))
+      (after-joined (since (front ++ run)) behind (fit-right front behind fits)
+      ∙ ap (λ at. leb (at + length (lineOf behind)) limit) (since-spaced b k front))
       ∙ passed-both (linesFit limit (front ++ run)) _
-          (λ e. fit-append front run
-          ∙ and-both at-front
-              (after-byte n b (spaces k)
-              ∙ spaced-fits (eqb b newline) n k (fit-since front at-front)
-                  (omega (arith, leb-true (spacedAt b k n + length (lineOf behind)) limit e))))
+      (λ e. fit-append front run
+      ∙ and-both at-front
+      (after-byte n b (spaces k)
+      ∙ spaced-fits (eqb b newline) n k (fit-since front at-front)
+      (omega (arith, leb-true (spacedAt b k n + length (lineOf behind)) limit e))))
 
 -- ---- The line that goes on, as code tests it
 

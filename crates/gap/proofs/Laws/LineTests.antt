@@ -16,11 +16,11 @@ use Rattle.gap.proofs.Laws.Runs.{tailOf, tail-lent}
 use Rattle.gap.proofs.Laws.Layout.{is-gap}
 use Rattle.gap.proofs.Laws.LineLimits.{after-nothing, fit-append, fit-runs}
 
-fails-here : {ok : Bool} (rest : Bool) → not ok ≡ true → false ≡ (ok && rest)
-fails-here {ok} rest fails = sym (ap (λ t. t && rest) (not-true ok fails))
+fails-here : (ok rest : Bool) → not ok ≡ true → false ≡ (ok && rest)
+fails-here ok rest fails = sym (ap (λ t. t && rest) (not-true ok fails))
 
-passes-here : {ok : Bool} (rest : Bool) → not ok ≡ false → rest ≡ (ok && rest)
-passes-here {ok} rest passes = sym (ap (λ t. t && rest) (not-false ok passes))
+passes-here : (ok rest : Bool) → not ok ≡ false → rest ≡ (ok && rest)
+passes-here ok rest passes = sym (ap (λ t. t && rest) (not-false ok passes))
 
 -- Each run is tested with what the line before it has come to; the line behind them is tested last.
 module _ (limit : ℕ) (front x y behind : List ℕ) (fits : (linesFit limit front ≡ true) × (linesFit limit behind ≡ true)) where
@@ -33,20 +33,20 @@ module _ (limit : ℕ) (front x y behind : List ℕ) (fits : (linesFit limit fro
 
   module _ {at-x : ℕ} {ok-x : Bool} (p : at-x ≡ since front) (tested-x : ok-x ≡ linesFitAfter limit at-x x) where
     pub runs-first : not ok-x ≡ true → false ≡ linesFit limit (front ++ (x ++ (y ++ behind)))
-    runs-first fails = fails-here _ fails ∙ runs-as p tested-x refl refl refl refl
+    runs-first fails = fails-here ok-x _ fails ∙ runs-as p tested-x refl refl refl refl
 
     module _ (passes-x : not ok-x ≡ false) {at-y : ℕ} {ok-y : Bool} (q : at-y ≡ sinceAfter at-x x) (tested-y : ok-y ≡ linesFitAfter limit at-y y) where
       pub runs-second : not ok-y ≡ true → false ≡ linesFit limit (front ++ (x ++ (y ++ behind)))
-      runs-second fails = fails-here _ fails ∙ passes-here _ passes-x ∙ runs-as p tested-x q tested-y refl refl
+      runs-second fails = fails-here ok-y _ fails ∙ passes-here ok-x _ passes-x ∙ runs-as p tested-x q tested-y refl refl
 
       pub runs-last : not ok-y ≡ false → {at : ℕ} {ok : Bool} → at ≡ sinceAfter at-y y → ok ≡ leb (at + length (lineOf behind)) limit
           → ok ≡ linesFit limit (front ++ (x ++ (y ++ behind)))
-      runs-last passes e tested = passes-here _ passes ∙ passes-here _ passes-x ∙ runs-as p tested-x q tested-y e tested
+      runs-last passes e tested = passes-here ok-y _ passes ∙ passes-here ok-x _ passes-x ∙ runs-as p tested-x q tested-y e tested
 
 -- A store that is not sound is refused before its lines are looked at; then come the text at the front and the one at the back.
 module _ (limit l r : ℕ) (s : List ℕ) {sound : Bool} (tested : sound ≡ soundGap l r s) where
   pub document-unsound : not sound ≡ true → false ≡ (soundGap l r s && linesFit limit (content (ungap l r s)))
-  document-unsound fails = fails-here _ fails ∙ ap (λ t. t && linesFit limit (content (ungap l r s))) tested
+  document-unsound fails = fails-here sound _ fails ∙ ap (λ t. t && linesFit limit (content (ungap l r s))) tested
 
   module _ (passes : not sound ≡ false) where
     pub document-fits : l + r ≤ length s
@@ -61,7 +61,7 @@ module _ (limit l r : ℕ) (s : List ℕ) {sound : Bool} (tested : sound ≡ sou
           (ap₂ _&&_ (tested-l ∙ after-nothing limit (take l s)) tested-r ∙ sym (fit-append limit (take l s) (drop (length s - r) s)))
 
       pub document-left : not ok-l ≡ true → false ≡ (soundGap l r s && linesFit limit (content (ungap l r s)))
-      document-left fails = fails-here _ fails ∙ passes-here _ passes ∙ whole refl
+      document-left fails = fails-here ok-l _ fails ∙ passes-here sound _ passes ∙ whole refl
 
       pub document-right : not ok-l ≡ false → {at start : ℕ} {ok-r : Bool} → at ≡ since (take l s) → start ≡ length s - r
           → ok-r ≡ linesFitAfter limit at (tailOf start s)
@@ -69,4 +69,4 @@ module _ (limit l r : ℕ) (s : List ℕ) {sound : Bool} (tested : sound ≡ sou
       document-right passes-l {at} {start} e place tested-r =
           let same : linesFitAfter limit at (tailOf start s) ≡ linesFitAfter limit (since (take l s)) (drop (length s - r) s) =
           ap₂ (linesFitAfter limit) e (tail-lent start s ∙ ap (λ k. drop k s) place) in
-          passes-here _ passes-l ∙ passes-here _ passes ∙ whole (tested-r ∙ same)
+          passes-here ok-l _ passes-l ∙ passes-here sound _ passes ∙ whole (tested-r ∙ same)

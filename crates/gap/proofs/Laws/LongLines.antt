@@ -66,8 +66,8 @@ module _ (limit : ℕ) where
   each-fits n (b ∷ s) first each =
       after-byte limit n b s
       ∙ each-with (eqb b newline) n b (lineOf s) (λ m. linesFitAfter limit m s) first
-          (λ e. each 0 (omega arith) (eqb-true b newline e))
-          (λ m fits. each-fits m s fits (λ j inside at. each (suc j) (omega arith) at))
+      (λ e. each 0 (omega arith) (eqb-true b newline e))
+      (λ m fits. each-fits m s fits (λ j inside at. each (suc j) (omega arith) at))
 
   -- Where no place is found, the line that begins at a place is within the limit; at the end there is none.
   module _ (s : List ℕ) (nowhere : longLine limit s ≡ Nowhere) where
@@ -83,9 +83,9 @@ module _ (limit : ℕ) where
     nowhere-fit =
         sym (after-nothing limit s)
         ∙ each-fits 0 s (omega (arith, line-at-fits 0 refl))
-            (λ j inside at.
-                let same : suc j - 1 ≡ j = omega arith in
-                line-at-fits (suc j) (or-right (eqb (suc j) 0) (eq-eqb (getD s (suc j - 1) 0) newline (ap (λ k. getD s k 0) same ∙ at))))
+        (λ j inside at.
+        let same : suc j - 1 ≡ j = omega arith in
+        line-at-fits (suc j) (or-right (eqb (suc j) 0) (eq-eqb (getD s (suc j - 1) 0) newline (ap (λ k. getD s k 0) same ∙ at))))
 
   -- ---- The search line by line
 

@@ -9,7 +9,7 @@ use Rattle.gap.proofs.line_limits.runs_fit.Tie as tie
 returns : tie.Need-returns
 returns c =
     let start : tie.Start = search in let x : tie.After-since-newline = search in let x-tested : tie.After-lines-fit = search in
-    runs-first _ _ _ _ _ (start .pre .0) (x .since-newline .ensures) (x-tested .lines-fit .ensures) (c .if1 .taken)
+    runs-first _ _ _ (start .args .y .now) _ (start .pre .0) (x .since-newline .ensures) (x-tested .lines-fit .ensures) (c .if1 .taken)
 
 since-newline-requires-2 : tie.Need-since-newline-requires-2
 since-newline-requires-2 c κs =

@@ -1,6 +1,7 @@
 -- `sound_document`: the store is tested first, then the text at its front and the one at its back.
 use mathlib.Core.Path.{sym}
 use native.Mathlib.Omega.{arith}
+use lib.ListN.{length-take}
 use lib.Seq.{length-take-le}
 use borrow.Author.Needs.{needs}
 use Rattle.gap.proofs.Laws.LineTests.{document-unsound, document-fits, document-left, document-right}
@@ -14,18 +15,21 @@ sub-start : tie.Need-sub-start
 sub-start c = omega (arith, document-fits 0 _ _ _ (c .before .sound-gap .ensures) (c .if1 .left))
 
 slice-aggregate-front : tie.Need-slice-aggregate-front
-slice-aggregate-front c =
-    let tested : tie.After-sound-gap = search in let passed : tie.After-start = search in
-    sym (length-take-le _ _ (omega (arith, document-fits 0 _ _ _ (tested .sound-gap .ensures) (passed .before .if1 .left))))
+slice-aggregate-front c = sym (length-take-le _ _ (omega (arith, document-fits 0 _ _ _ (c .before .before .sound-gap .ensures) (c .before .if1 .left))))
 
 returns-2 : tie.Need-returns-2
-returns-2 c = search needs
+returns-2 c =
+    let sound : tie.After-sound-gap = search in
+    document-left _ _ _ _ (sound .sound-gap .ensures) (c .before .before .before .if1 .left) (c .before .lines-fit .ensures) (c .if2 .taken)
 
 since-newline-requires : tie.Need-since-newline-requires
-since-newline-requires c κs = search needs
+since-newline-requires c κs = simp length-take (omega arith)
 
 returns-3 : tie.Need-returns-3
-returns-3 c = search needs
+returns-3 c =
+    let sound : tie.After-sound-gap = search in let left : tie.After-lines-fit = search in let since : tie.After-since-newline = search in
+    document-right _ _ _ _ (sound .sound-gap .ensures) (left .before .before .if1 .left) (left .lines-fit .ensures) (since .before .if2 .left)
+    (since .since-newline .ensures) (omega arith) (c .lines-fit2 .ensures)
 
 pub sound-document-spec : {M : Type 1} → statement M
 sound-document-spec = tie.close (tie.spec
