@@ -2,13 +2,13 @@
 use mathlib.Core.Path.{_≡_, refl, sym, ap, ap₂, _∙_}
 use mathlib.Core.Logic.{⊎-elim}
 use mathlib.Core.Bool.{Bool, true, false, _&&_, cond, and-true, and-assoc}
-use mathlib.Core.List.{List, [], _∷_, _++_, append-nil, append-assoc}
+use mathlib.Core.List.{List, [], _∷_, _++_, append-nil}
 use Prim.Native.Nat.{ℕ, suc, _+_, _-_, _≤_, _<_}
 use native.Mathlib.Omega.{arith}
 use lib.Dec.{eqb, leb}
 use lib.ListN.{length, take, drop, getD, take-append-drop}
 use borrow.Author.Tests.{leb-true, leb-false, le-leb, lt-leb}
-use Rattle.gap.specs.Rules.Lines.{newline, newlines, sinceAfter, since, longer, lines}
+use Rattle.gap.specs.Rules.Lines.{newline, sinceAfter, since, longer, lines}
 use Rattle.gap.specs.Rules.Fields.{lineOf, lineAt, endAt}
 use Rattle.gap.specs.Rules.Indents.{spaces}
 use Rattle.gap.specs.Rules.LineLimits.{noneLonger, linesFit}

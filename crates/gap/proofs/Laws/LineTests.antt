@@ -43,30 +43,30 @@ module _ (limit : ℕ) (front x y behind : List ℕ) (fits : (linesFit limit fro
           → ok ≡ linesFit limit (front ++ (x ++ (y ++ behind)))
       runs-last passes e tested = passes-here ok-y _ passes ∙ passes-here ok-x _ passes-x ∙ runs-as p tested-x q tested-y e tested
 
+-- The lengths of a store that has passed its test fit.
+pub document-fits : (l r : ℕ) (s : List ℕ) {sound : Bool} → sound ≡ soundGap l r s → not sound ≡ false → l + r ≤ length s
+document-fits l r s {sound} tested passes = is-gap l r s (sym tested ∙ not-false sound passes) .fits
+
 -- A store that is not sound is refused before its lines are looked at; then come the text at the front and the one at the back.
 module _ (limit l r : ℕ) (s : List ℕ) {sound : Bool} (tested : sound ≡ soundGap l r s) where
   pub document-unsound : not sound ≡ true → false ≡ (soundGap l r s && linesFit limit (content (ungap l r s)))
   document-unsound fails = fails-here sound _ fails ∙ ap (λ t. t && linesFit limit (content (ungap l r s))) tested
 
-  module _ (passes : not sound ≡ false) where
-    pub document-fits : l + r ≤ length s
-    document-fits = is-gap l r s (sym tested ∙ not-false sound passes) .fits
+  module _ (passes : not sound ≡ false) {ok-l : Bool} (tested-l : ok-l ≡ linesFitAfter limit 0 (take l s)) where
+    whole : {ok-r : Bool} → ok-r ≡ linesFitAfter limit (since (take l s)) (drop (length s - r) s)
+        → (sound && (ok-l && ok-r)) ≡ (soundGap l r s && linesFit limit (content (ungap l r s)))
+    unfolding ungap
+    whole tested-r =
+        ap₂ _&&_ tested
+        (ap₂ _&&_ (tested-l ∙ after-nothing limit (take l s)) tested-r ∙ sym (fit-append limit (take l s) (drop (length s - r) s)))
 
-    module _ {ok-l : Bool} (tested-l : ok-l ≡ linesFitAfter limit 0 (take l s)) where
-      whole : {ok-r : Bool} → ok-r ≡ linesFitAfter limit (since (take l s)) (drop (length s - r) s)
-          → (sound && (ok-l && ok-r)) ≡ (soundGap l r s && linesFit limit (content (ungap l r s)))
-      unfolding ungap
-      whole tested-r =
-          ap₂ _&&_ tested
-          (ap₂ _&&_ (tested-l ∙ after-nothing limit (take l s)) tested-r ∙ sym (fit-append limit (take l s) (drop (length s - r) s)))
+    pub document-left : not ok-l ≡ true → false ≡ (soundGap l r s && linesFit limit (content (ungap l r s)))
+    document-left fails = fails-here ok-l _ fails ∙ passes-here sound _ passes ∙ whole refl
 
-      pub document-left : not ok-l ≡ true → false ≡ (soundGap l r s && linesFit limit (content (ungap l r s)))
-      document-left fails = fails-here ok-l _ fails ∙ passes-here sound _ passes ∙ whole refl
-
-      pub document-right : not ok-l ≡ false → {at start : ℕ} {ok-r : Bool} → at ≡ since (take l s) → start ≡ length s - r
-          → ok-r ≡ linesFitAfter limit at (tailOf start s)
-          → ok-r ≡ (soundGap l r s && linesFit limit (content (ungap l r s)))
-      document-right passes-l {at} {start} e place tested-r =
-          let same : linesFitAfter limit at (tailOf start s) ≡ linesFitAfter limit (since (take l s)) (drop (length s - r) s) =
-          ap₂ (linesFitAfter limit) e (tail-lent start s ∙ ap (λ k. drop k s) place) in
-          passes-here ok-l _ passes-l ∙ passes-here sound _ passes ∙ whole (tested-r ∙ same)
+    pub document-right : not ok-l ≡ false → {at start : ℕ} {ok-r : Bool} → at ≡ since (take l s) → start ≡ length s - r
+        → ok-r ≡ linesFitAfter limit at (tailOf start s)
+        → ok-r ≡ (soundGap l r s && linesFit limit (content (ungap l r s)))
+    document-right passes-l {at} {start} e place tested-r =
+        let same : linesFitAfter limit at (tailOf start s) ≡ linesFitAfter limit (since (take l s)) (drop (length s - r) s) =
+        ap₂ (linesFitAfter limit) e (tail-lent start s ∙ ap (λ k. drop k s) place) in
+        passes-here ok-l _ passes-l ∙ passes-here sound _ passes ∙ whole (tested-r ∙ same)

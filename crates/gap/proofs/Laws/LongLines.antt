@@ -13,7 +13,7 @@ use borrow.Author.Tests.{ltb-true, ltb-false, lt-ltb, le-ltb, le-leb, eq-eqb, ne
 use Rattle.gap.specs.declared.Search.the-variants.{Reached, Nowhere}
 use Rattle.gap.specs.Rules.Sequence.{part}
 use Rattle.gap.specs.Rules.Nearest.{nearest}
-use Rattle.gap.specs.Rules.Lines.{newline, Unbroken}
+use Rattle.gap.specs.Rules.Lines.{newline}
 use Rattle.gap.specs.Rules.Fields.{lineOf, lineAt, endAt}
 use Rattle.gap.specs.Rules.LineLimits.{linesFit, beginsLine, longLine}
 use Rattle.gap.specs.Wording.LinesAfter.{linesFitAfter}
@@ -35,8 +35,8 @@ not-both a e = ap (λ t. a && t) e ∙ and-false a
 not-either : {a b : Bool} → a ≡ false → b ≡ false → (a || b) ≡ false
 not-either {a} {b} p q = ap (λ t. t || b) p ∙ q
 
-other-fails : {a b : Bool} → (a && b) ≡ false → a ≡ true → b ≡ false
-other-fails {a} {b} e p = sym (ap (λ t. t && b) p) ∙ e
+other-fails : (a b : Bool) → (a && b) ≡ false → a ≡ true → b ≡ false
+other-fails a b e p = sym (ap (λ t. t && b) p) ∙ e
 
 module _ (limit : ℕ) where
   -- ---- There is none exactly where the lines fit
@@ -73,11 +73,16 @@ module _ (limit : ℕ) where
   module _ (s : List ℕ) (nowhere : longLine limit s ≡ Nowhere) where
     line-at-fits : (at : ℕ) → beginsLine s at ≡ true → length (lineOf (drop at s)) ≤ limit
     unfolding longLine lineAt lineOf
-    line-at-fits at begins =
-        ⊎-elim
-        (λ inside. ltb-false _ _ (other-fails (nowhere-none (longerAt limit s) (length s) 0 nowhere at (omega arith) (omega (arith, ltb-true at (length s) inside))) begins))
-        (λ outside. let none : length (lineOf (drop at s)) ≡ 0 = ap (λ t. length (lineOf t)) (drop-of-length-le s (ltb-false _ _ outside)) in omega arith)
-        (decided (ltb at (length s)))
+    line-at-fits at begins = ⊎-elim within outside (decided (ltb at (length s)))
+      where
+        within : ltb at (length s) ≡ true → length (lineOf (drop at s)) ≤ limit
+        within more =
+            let none = nowhere-none (longerAt limit s) (length s) 0 nowhere at (omega arith) (omega (arith, ltb-true at (length s) more)) in
+            ltb-false limit (length (lineOf (drop at s))) (other-fails (beginsLine s at) _ none begins)
+
+        outside : ltb at (length s) ≡ false → length (lineOf (drop at s)) ≤ limit
+        outside none =
+            let empty : length (lineOf (drop at s)) ≡ 0 = ap (λ t. length (lineOf t)) (drop-of-length-le s (ltb-false _ _ none)) in omega arith
 
     pub nowhere-fit : linesFit limit s ≡ true
     nowhere-fit =

@@ -3,7 +3,7 @@ use Prim.Native.Nat.{_-_}
 use native.Mathlib.Omega.{arith}
 use lib.ListN.{length}
 use borrow.Author.Needs.{needs}
-use Rattle.gap.proofs.Laws.LinePlaces.{line-starts, line-inside}
+use Rattle.gap.proofs.Laws.LinePlaces.{line-starts}
 use Rattle.gap.proofs.Laws.LongLines.{LinesPassed, lines-fitting, lines-start, lines-found, lines-more, lines-last, lines-none}
 use Rattle.gap.proofs.line_limits.long_line.Statement.{statement}
 use Rattle.gap.proofs.line_limits.long_line.Tie as tie

@@ -12,18 +12,15 @@ returns : tie.Need-returns
 returns c = document-unsound _ _ _ _ (c .before .sound-gap .ensures) (c .if1 .taken)
 
 sub-start : tie.Need-sub-start
-sub-start c = omega (arith, document-fits 0 _ _ _ (c .before .sound-gap .ensures) (c .if1 .left))
+sub-start c = omega (arith, document-fits _ _ _ (c .before .sound-gap .ensures) (c .if1 .left))
 
 slice-aggregate-front : tie.Need-slice-aggregate-front
-slice-aggregate-front c = sym (length-take-le _ _ (omega (arith, document-fits 0 _ _ _ (c .before .before .sound-gap .ensures) (c .before .if1 .left))))
+slice-aggregate-front c = sym (length-take-le _ _ (omega (arith, document-fits _ _ _ (c .before .before .sound-gap .ensures) (c .before .if1 .left))))
 
 returns-2 : tie.Need-returns-2
 returns-2 c =
     let sound : tie.After-sound-gap = search in
     document-left _ _ _ _ (sound .sound-gap .ensures) (c .before .before .before .if1 .left) (c .before .lines-fit .ensures) (c .if2 .taken)
-
-since-newline-requires : tie.Need-since-newline-requires
-since-newline-requires c κs = simp length-take (omega arith)
 
 returns-3 : tie.Need-returns-3
 returns-3 c =
@@ -36,7 +33,8 @@ sound-document-spec = tie.close (tie.spec
     (λ c κs. search needs)  -- sound-gap-requires
     returns sub-start slice-aggregate-front
     (λ c κs. search needs)  -- lines-fit-requires
-    returns-2 since-newline-requires
+    returns-2
+    (λ c κs. simp length-take (omega arith))  -- since-newline-requires
     (λ c. search needs)  -- sub-lines-fit
     (λ c. search needs)  -- part-lines-fit-start
     (λ c. search needs)  -- part-lines-fit-end
