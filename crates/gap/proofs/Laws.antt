@@ -21,3 +21,5 @@ pub mod Moves
 pub mod Decimals
 pub mod Fields
 pub mod Writers
+pub mod LineLimits
+pub mod LineLimitScans
