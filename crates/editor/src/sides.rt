@@ -18,9 +18,9 @@ use crate::records::went;
 use crate::refusals::FULL;
 use crate::refusals::LINE;
 use crate::splices::join_fits;
+use crate::splices::pair_fits;
 use crate::splices::run_fits;
 use gap::Direction;
-use gap::line_limits::runs_fit;
 use gap::texts::delete_left;
 use gap::texts::delete_right;
 use gap::texts::insert;
@@ -177,15 +177,7 @@ pub fn recall_side(limit: usize, n: Sizes, text: &mut [u8], recall: &[u8]) -> Si
     if text.len() - (l + r) < rl + rr {
         return refused(FULL, n);
     }
-    let end = rl + rr;
-    let back = text.len() - r;
-    if !runs_fit(
-        limit,
-        &text[..l],
-        &recall[..rl],
-        &recall[rl..end],
-        &text[back..],
-    ) {
+    if !pair_fits(limit, text, l, r, recall, rl, rr) {
         return refused(LINE, n);
     }
     place_pair(text, l, r, recall, rl, rr);

@@ -3,7 +3,10 @@ use mathlib.Core.Path.{_≡_, refl}
 use mathlib.Core.Bool.{Bool, true, false, cond}
 use Prim.Native.Nat.{ℕ}
 use lib.ListN.{length}
+use borrow.Author.Tests.{le-leb}
 use Rattle.gap.specs.Rules.Doc.{Doc}
+use Rattle.gap.proofs.Laws.Tests.{and-both}
+use Rattle.gap.proofs.Laws.Holdable.{content-fits}
 use Rattle.editor.specs.Words.{Reached, Delete, Mode, Main, Quoted, Marking, Unmarked, At}
 use Rattle.editor.specs.Rules.Marks.{wayTo, farTo}
 use Rattle.editor.specs.Rules.Plain.{Side, Plain, holding, quiet, rang, Did, reporting, within}
@@ -12,7 +15,7 @@ use Rattle.editor.specs.Rules.Bytes.{SoundTexts}
 use Rattle.editor.specs.Rules.Keys.{sideOf, withSide, onSide, matches}
 use Rattle.editor.specs.Rules.Keys.{exchanged, substituted, recalled, withMark, withHolding, cutTo, pasted, fits}
 use Rattle.editor.proofs.Laws.Sides.{SoundSide, carried-sound, recalled-sound}
-use Rattle.editor.proofs.Laws.States.{fits-side}
+use Rattle.editor.proofs.Laws.States.{sound-fits, fits-side}
 
 -- Another mark leaves the texts, and their room.
 pub marked-sound : (T Q : ℕ) (mark : Marking) (p : Plain) → SoundTexts T Q p → SoundTexts T Q (withMark mark p)
@@ -57,6 +60,14 @@ with-holding-sound T Q s p sound side lines =
       mode = sound .mode;
       lines = lines;
     }
+
+pub cut-fits : (T Q : ℕ) (mark : Marking) (p : Plain) → SoundTexts T Q p → fits T Q (cutTo mark p .state) ≡ true
+unfolding cutTo fits
+cut-fits T Q Unmarked p sound = sound-fits T Q p sound
+cut-fits T Q (At m) p sound =
+    let l = length (p .main .text .l) in
+    let side = carried-sound T (holding p) (holding-sound T Q p sound) Delete (wayTo m l) (Reached (farTo m l) 0) in
+    and-both (le-leb _ _ (content-fits T _ (side .text))) (le-leb _ _ (content-fits Q (p .quoted .text) (sound .quotation)))
 
 pub cut-sound : (T Q : ℕ) (mark : Marking) (p : Plain) → SoundTexts T Q p → readable longestLine (cutTo mark p .state) ≡ true
     → SoundTexts T Q (cutTo mark p .state)

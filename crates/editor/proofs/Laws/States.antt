@@ -30,6 +30,11 @@ abbrev pub limit : ℕ → ℕ → Mode → ℕ
 limit T Q Main = T
 limit T Q Quoted = Q
 
+-- How long a line of it may be: the quotation has no such limit, and none of its lines is longer than its store.
+abbrev pub lineLimit : ℕ → Mode → ℕ
+lineLimit Q Main = longestLine
+lineLimit Q Quoted = Q
+
 pub side-with : (mode : Mode) (s : Side) (p : Plain) → sideOf mode (withSide mode s p) ≡ s
 side-with Main s p = refl
 side-with Quoted s p = refl
@@ -130,7 +135,23 @@ on-side-fits T Q edit p room =
     let side = edit (sideOf (p .mode) p) .state in
     rw (side-with (p .mode) side p) at (fits-side T Q (p .mode) (withSide (p .mode) side p) room)
 
--- Moves and deletions keep a session, if the lines that a deletion joins are not too long: there is always room.
+-- Another sound side fits, and so do moves and deletions: there is always room.
+side-fits : (T Q : ℕ) (mode : Mode) (s : Side) (p : Plain) → SoundTexts T Q p → SoundSide (limit T Q mode) s → fits T Q (withSide mode s p) ≡ true
+unfolding fits
+side-fits T Q Main s p sound side =
+    and-both (le-leb _ _ (content-fits T (s .text) (side .text))) (le-leb _ _ (content-fits Q (p .quoted .text) (sound .quotation)))
+side-fits T Q Quoted s p sound side =
+    and-both (le-leb _ _ (content-fits T (p .main .text) (sound .text))) (le-leb _ _ (content-fits Q (s .text) (side .text)))
+
+pub function-fits : (T Q : ℕ) (action : Action) (way : Direction) (place : Place) (p : Plain) → SoundTexts T Q p
+    → fits T Q (onSide (function action way place) p .state) ≡ true
+unfolding function onSide
+function-fits T Q action way place p sound =
+    let s = sideOf (p .mode) p in
+    side-fits T Q (p .mode) _ p sound
+    (carried-sound (limit T Q (p .mode)) s (side-sound T Q (p .mode) p sound) action way (passageTo way (isAt place way) (s .text)))
+
+-- They keep a session, if the lines that a deletion joins are not too long.
 pub function-sound : (T Q : ℕ) (action : Action) (way : Direction) (place : Place) (p : Plain) → SoundTexts T Q p
     → readable longestLine (onSide (function action way place) p .state) ≡ true → SoundTexts T Q (onSide (function action way place) p .state)
 unfolding function

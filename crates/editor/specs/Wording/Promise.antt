@@ -17,7 +17,7 @@ use Rattle.editor.specs.Rules.Refusals.{FULL, LINE}
 use Rattle.editor.specs.Rules.Plain.{Side, Plain, opening, quiet, Did, Outcome}
 use Rattle.editor.specs.Rules.LongLines.{longestLine, readable}
 use Rattle.editor.specs.Rules.Indents.{newlined, tabbed}
-use Rattle.editor.specs.Rules.Keys.{inserted, function, recalled, matches, substituted, fits}
+use Rattle.editor.specs.Rules.Keys.{inserted, function, recalled, matches, substituted, replaced, fits}
 use Rattle.editor.specs.Rules.Bytes.{Stores, quarter, quarterOf, sized, sizesOf, plainOf, lengthsOf, storesOf, editorOk, unedited, editedTo, noSizes}
 
 -- ---- One side
@@ -246,6 +246,17 @@ pub record Substitutes (here : Bool) (T : ℕ) (p : Plain) : Type 0 where
 abbrev pub SubstitutesUnheld : Bool → Lengths → (text recall side : List ℕ) → Type 0
 SubstitutesUnheld here n text recall side =
     (held : List ℕ) × Sound quarter n (stores text recall held side) × Substitutes here (length text) (plainOf quarter n (stores text recall held side))
+
+-- What is known before REPLACE's test of lines; and its answer, whatever recall text and held text there are.
+abbrev pub Exchanges : Bool → Lengths → (text side : List ℕ) → Type 0
+Exchanges here n text side =
+    (recall : List ℕ) × (held : List ℕ) × Sound quarter n (stores text recall held side)
+    × (let p = plainOf quarter n (stores text recall held side) in here ≡ matches (p .pattern) (p .main .text))
+
+abbrev pub ReadableExchanged : Bool → Lengths → (text side : List ℕ) → Type 0
+ReadableExchanged ok n text side =
+    (recall held : List ℕ) → Sound quarter n (stores text recall held side)
+    → ok ≡ readable longestLine (replaced (plainOf quarter n (stores text recall held side)) .state)
 
 -- The distance over all of a text of n bytes.
 abbrev pub wholeOf : ℕ → Search
