@@ -23,3 +23,5 @@ pub mod Fields
 pub mod Writers
 pub mod LineLimits
 pub mod LineLimitScans
+pub mod LongLines
+pub mod LineTests

@@ -103,7 +103,8 @@ module _ (limit n : ℕ) (s : List ℕ) where
               let carried = since-unbroken (limit - room) _ (since-whole 0 (take (end - i) (drop i s)) all) in
               let cut : linesFitAfter limit (limit - room) (take (end - i) (drop i s) ++ drop (end - i) (drop i s)) ≡ true =
               ap (linesFitAfter limit (limit - room)) (take-append-drop (end - i) (drop i s)) ∙ sym (so-far .rest) ∙ fits in
-              let front = and-left _ _ (sym (after-append limit (limit - room) (take (end - i) (drop i s)) _) ∙ cut) in
+              let front : linesFitAfter limit (limit - room) (take (end - i) (drop i s)) ≡ true =
+              and-left _ _ (sym (after-append limit (limit - room) (take (end - i) (drop i s)) _) ∙ cut) in
               omega (arith, carried, after-since limit (limit - room) (take (end - i) (drop i s)) front, long, so-far .spare)
 
       pub fitting-more : last ≤ room → Fitting limit n s limit (end - last)

@@ -1,18 +1,19 @@
 -- Laws of lines against a limit: of two texts put together, of a front and of a rest, of short texts, and of what keys put in and take out.
 use mathlib.Core.Path.{_≡_, refl, sym, ap, ap₂, _∙_}
+use mathlib.Core.Logic.{⊎-elim}
 use mathlib.Core.Bool.{Bool, true, false, _&&_, cond, and-true, and-assoc}
-use mathlib.Core.List.{List, [], _∷_, _++_, append-nil, append-assoc}
-use Prim.Native.Nat.{ℕ, suc, _+_, _≤_}
+use mathlib.Core.List.{List, [], _∷_, _++_, append-nil}
+use Prim.Native.Nat.{ℕ, suc, _+_, _-_, _≤_, _<_}
 use native.Mathlib.Omega.{arith}
 use lib.Dec.{eqb, leb}
 use lib.ListN.{length, take, drop, getD, take-append-drop}
-use borrow.Author.Tests.{leb-true, le-leb}
-use Rattle.gap.specs.Rules.Lines.{newline, newlines, sinceAfter, since, longer, lines}
-use Rattle.gap.specs.Rules.Fields.{lineOf}
+use borrow.Author.Tests.{leb-true, leb-false, le-leb, lt-leb}
+use Rattle.gap.specs.Rules.Lines.{newline, sinceAfter, since, longer, lines}
+use Rattle.gap.specs.Rules.Fields.{lineOf, lineAt, endAt}
 use Rattle.gap.specs.Rules.Indents.{spaces}
 use Rattle.gap.specs.Rules.LineLimits.{noneLonger, linesFit}
 use Rattle.gap.specs.Wording.LinesAfter.{linesFitAfter}
-use Rattle.gap.proofs.Laws.Tests.{and-left, and-right, and-both}
+use Rattle.gap.proofs.Laws.Tests.{decided, and-left, and-right, and-both}
 use Rattle.gap.proofs.Laws.Lines.{firstLine, laterLines, lines-first, since-append, since-fits, since-unbroken}
 use Rattle.gap.proofs.Laws.Indents.{length-spaces, spaces-unbroken}
 
@@ -82,7 +83,7 @@ module _ (limit : ℕ) where
       let all : 0 + length (lineOf s) ≡ length (lineOf s) = omega arith in
       after-first 0 s ∙ ap (λ k. leb k limit && noneLonger limit (laterLines s)) all ∙ sym (fit-first s)
 
-  after-none : (n : ℕ) → linesFitAfter limit n [] ≡ leb n limit
+  pub after-none : (n : ℕ) → linesFitAfter limit n [] ≡ leb n limit
   unfolding lines lineOf noneLonger
   after-none n = let all : n + 0 ≡ n = omega arith in after-first n [] ∙ ap (λ k. leb k limit && true) all ∙ and-true (leb n limit)
 
@@ -95,7 +96,7 @@ module _ (limit : ℕ) where
       ap₂ (λ k later. leb k limit && noneLonger limit later) all (later-with b ls)
 
   -- A newline ends the line before it; any other byte makes that line one byte longer.
-  after-byte : (n b : ℕ) (s : List ℕ)
+  pub after-byte : (n b : ℕ) (s : List ℕ)
       → linesFitAfter limit n (b ∷ s) ≡ cond (eqb b newline) (leb n limit && linesFitAfter limit 0 s) (linesFitAfter limit (suc n) s)
   unfolding lines lineOf linesFit
   after-byte n b s =
@@ -122,7 +123,7 @@ module _ (limit : ℕ) where
   after-append n (b ∷ s) t =
       after-byte n b (s ++ t)
       ∙ append-with (eqb b newline) n (leb n limit) (λ m. linesFitAfter limit m (s ++ t)) (λ m. linesFitAfter limit m s)
-          (λ m. linesFitAfter limit (sinceAfter m s) t) (λ m. after-append m s t)
+      (λ m. linesFitAfter limit (sinceAfter m s) t) (λ m. after-append m s t)
       ∙ ap (λ fit. fit && linesFitAfter limit (sinceAfter (cond (eqb b newline) 0 (suc n)) s) t) (sym (after-byte n b s))
 
   pub fit-append : (s t : List ℕ) → linesFit limit (s ++ t) ≡ (linesFit limit s && linesFitAfter limit (since s) t)
@@ -210,7 +211,7 @@ module _ (limit : ℕ) where
       ∙ ap (λ fit. fit && linesFitAfter limit at-x (x ++ (y ++ behind))) fits
       ∙ after-append at-x x (y ++ behind)
       ∙ ap (λ rest. linesFitAfter limit at-x x && rest)
-          (after-append at-y y behind ∙ ap (λ last. linesFitAfter limit at-y y && last) (after-joined (sinceAfter at-y y) behind also))
+      (after-append at-y y behind ∙ ap (λ last. linesFitAfter limit at-y y && last) (after-joined (sinceAfter at-y y) behind also))
 
   spaced-fits : (is : Bool) (n k : ℕ) → n ≤ limit → cond is k (n + 1 + k) ≤ limit
       → cond is (leb n limit && linesFitAfter limit 0 (spaces k)) (linesFitAfter limit (suc n) (spaces k)) ≡ true
@@ -226,11 +227,29 @@ module _ (limit : ℕ) where
       let at-front = fit-left front behind fits in
       fit-append (front ++ run) behind
       ∙ ap (λ fit. linesFit limit (front ++ run) && fit)
-          (after-joined (since (front ++ run)) behind (fit-right front behind fits)
-          ∙ ap (λ at. leb (at + length (lineOf behind)) limit) (since-spaced b k front))
+      (after-joined (since (front ++ run)) behind (fit-right front behind fits)
+      ∙ ap (λ at. leb (at + length (lineOf behind)) limit) (since-spaced b k front))
       ∙ passed-both (linesFit limit (front ++ run)) _
-          (λ e. fit-append front run
-          ∙ and-both at-front
-              (after-byte n b (spaces k)
-              ∙ spaced-fits (eqb b newline) n k (fit-since front at-front)
-                  (omega (arith, leb-true (spacedAt b k n + length (lineOf behind)) limit e))))
+      (λ e. fit-append front run
+      ∙ and-both at-front
+      (after-byte n b (spaces k)
+      ∙ spaced-fits (eqb b newline) n k (fit-since front at-front)
+      (omega (arith, leb-true (spacedAt b k n + length (lineOf behind)) limit e))))
+
+-- ---- The line that goes on, as code tests it
+
+room-for : (limit at k : ℕ) → at ≤ limit → leb k (limit - at) ≡ leb (at + k) limit
+room-for limit at k fits =
+    ⊎-elim (λ passes. passes ∙ sym (le-leb (at + k) limit (omega (arith, leb-true k (limit - at) passes))))
+    (λ fails. fails ∙ sym (lt-leb (at + k) limit (omega (arith, leb-false k (limit - at) fails))))
+    (decided (leb k (limit - at)))
+
+pub line-over : (limit at : ℕ) (behind : List ℕ) → limit < at → false ≡ leb (at + length (lineOf behind)) limit
+line-over limit at behind over = sym (lt-leb (at + length (lineOf behind)) limit (omega arith))
+
+pub line-room : {limit at end : ℕ} (behind : List ℕ) → at ≤ limit → end ≡ endAt behind 0
+    → leb end (limit - at) ≡ leb (at + length (lineOf behind)) limit
+unfolding endAt lineAt
+line-room {limit} {at} {end} behind fits ends =
+    let size : end ≡ length (lineOf behind) = ends ∙ omega arith in
+    ap (λ k. leb k (limit - at)) size ∙ room-for limit at (length (lineOf behind)) fits
