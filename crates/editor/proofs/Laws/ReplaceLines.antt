@@ -2,7 +2,7 @@
 use mathlib.Core.Path.{_≡_, sym, ap, ap₂, _∙_}
 use mathlib.Core.Bool.{true, false}
 use mathlib.Core.List.{List, _++_, append-assoc}
-use Prim.Native.Nat.{ℕ, _+_, _-_, _*_, _≤_}
+use Prim.Native.Nat.{ℕ, _+_, _-_, _*_, _^_, _≤_, _<_}
 use native.Mathlib.Nat.{sub-zero}
 use native.Mathlib.Omega.{arith}
 use lib.ListN.{length, take, drop}
@@ -24,6 +24,7 @@ use Rattle.editor.proofs.Laws.Quarters.{length-quarter}
 use Rattle.editor.proofs.Laws.Session.{measured, passed}
 use Rattle.editor.proofs.Laws.Encoding.{session-encoded}
 use Rattle.editor.proofs.Laws.Fitting.{Sized, sizes, fitting}
+use Rattle.editor.proofs.Laws.Splices.{short-take}
 
 -- A text in which the pair x took the place of k bytes behind the cursor, as four runs.
 exchanged-runs : (k : ℕ) (x d : Doc) → content (splice 0 k x d) ≡ d .l ++ (x .l ++ (x .r ++ drop k (d .r)))
@@ -99,6 +100,14 @@ module _ (Q : ℕ) (n : Lengths) (b : Stores) (sound : Sound Q n b) where
 
     abbrev pairLent : List ℕ
     pairLent = take (4 * Q - 3 * Q) (drop (3 * Q) (b .side))
+
+    -- No more is read than three stores have.
+    pub small-main : Q ≤ 65536
+        → length front + (length (take (n .xl) pairLent) + length (take (n .xl + n .xr - n .xl) (drop (n .xl) pairLent))) < 2 ^ 64
+    small-main small =
+        let fit = fitting Q n b sound in
+        let half = short-take (n .xl + n .xr - n .xl) (drop (n .xl) pairLent) in
+        omega (arith, small, fit .high, fit .document, fit .replacement, short-take (n .main .l) (b .text), short-take (n .xl) pairLent, half)
 
     pub readable-main : n .mode ≡ Main
         → linesFit longestLine (front ++ (take (n .xl) pairLent ++ (take (n .xl + n .xr - n .xl) (drop (n .xl) pairLent) ++ behind)))

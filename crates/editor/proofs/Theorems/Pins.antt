@@ -31,6 +31,7 @@ use Rattle.editor.specs.Tables.QuotationPins.{quotationPins, searchPins,
 use Rattle.editor.specs.Tables.MarkPins.{markPins, changePins}
 use Rattle.editor.specs.Tables.CutPins.{cutPins, pastePins}
 use Rattle.editor.specs.Tables.IndentPins.{newlinePins, tabPins, indentPins, max0, marginPins}
+use Rattle.editor.specs.Tables.LinePins.{linePins}
 use Rattle.editor.specs.Tables.SessionPins.{layoutPins, sessionPins}
 
 pub places-pinned : broken onPlain placePins ≡ []
@@ -91,6 +92,13 @@ indent-changes-pinned = refl
 pub margins-pinned : broken itself marginPins ≡ []
 unfolding sameBytes bytes move times nearest sinceAfter leading indent lineBeginning word max0 allOf broken markedAfter
 margins-pinned = refl
+
+pub lines-pinned : broken itself linePins ≡ []
+unfolding every sameBytes begins part zeros bytes move delete times passed removed splice nearest distance withLines passageTo newlines
+    sinceAfter spaces leading indent ungap unpair soundGap soundPair allOf broken markedAfter isAt documentEnd soundKey inserted carried function
+    recalled onSide quoted withReplacement exchanged substituted replaced markedHere cutTo pasted insertedRun newlined tabbed acted changeOf
+    markThrough pressed linesFit noneLonger lines longestLine fits bounded key quarter editorOk seeing
+lines-pinned = refl
 
 pub layouts-pinned : broken itself layoutPins ≡ []
 unfolding sameBytes part zeros bytes move times splice nearest distance passed withLines passageTo newlines gapped paired ungap unpair allOf

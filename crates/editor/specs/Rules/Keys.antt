@@ -318,6 +318,6 @@ pub data Unsound : Mode → Key → Type 0 where
 abbrev pub Exceeds : ℕ → ℕ → Plain → Type 0
 Exceeds T Q p = (T < length (content (p .main .text))) ⊎ (Q < length (content (p .quoted .text)))
 
--- 02, M-106: the finished document would have a line of more than 1,024 bytes, one of its lines counted from 0.
+-- 02, M-106, LINE: the finished document would have a line of more than 1,024 bytes, the line with this index.
 abbrev pub LongLine : Plain → Type 0
-LongLine p = (i : ℕ) × (i < length (lines (content (p .main .text)))) × (longestLine < length (getD (lines (content (p .main .text))) i []))
+LongLine p = (i : ℕ) × (longestLine < length (getD (lines (content (p .main .text))) i []))

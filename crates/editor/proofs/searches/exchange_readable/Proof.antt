@@ -9,7 +9,7 @@ use Rattle.editor.specs.Rules.LongLines.{longestLine}
 use Rattle.editor.specs.Rules.Bytes.{quarter, plainOf}
 use Rattle.editor.proofs.Laws.Fitting.{fitting}
 use Rattle.editor.proofs.Laws.FindReplace.{pattern-stands}
-use Rattle.editor.proofs.Laws.ReplaceLines.{front-fits, behind-fits, readable-unmatched, readable-main, readable-quoted}
+use Rattle.editor.proofs.Laws.ReplaceLines.{front-fits, behind-fits, readable-unmatched, small-main, readable-main, readable-quoted}
 use Rattle.editor.proofs.searches.exchange_readable.Statement.{statement}
 use Rattle.editor.proofs.searches.exchange_readable.Tie as tie
 
@@ -20,7 +20,7 @@ returns c =
     λ recall held sound. readable-unmatched quarter _ _ sound (sym (start .pre .3) ∙ not-true _ (tested .if1 .taken))
 
 -- The pattern stands behind the cursor.
-stands : (c : tie.Else1) → let n = c .before .before .args .n in n .pl ≤ n .main .r
+stands : (c : tie.Else1) → let n = c .before .before .before .args .n in n .pl ≤ n .main .r
 stands c =
     let start : tie.Start = search in
     pattern-stands quarter _ _ (start .pre .2) (sym (start .pre .3) ∙ not-false _ (c .if1 .left))
@@ -68,10 +68,9 @@ runs-fit-requires : tie.Need-runs-fit-requires
 unfolding quarter longestLine
 runs-fit-requires c κs =
     let tested : tie.Else1 = search in let start : tie.Start = search in
-    let sound = start .pre .2 in (
-      (front-fits quarter _ _ sound, behind-fits quarter _ _ sound (stands tested)),
-      simp (length-take, length-drop) (omega (arith, fitting quarter _ _ sound)),
-    )
+    let sound = start .pre .2 in
+    let match = sym (start .pre .3) ∙ not-false _ (tested .if1 .left) in
+    ((front-fits quarter _ _ sound, behind-fits quarter _ _ sound (stands tested)), small-main quarter _ _ sound match (stands tested) (omega arith))
 
 slice-aggregate-own : tie.Need-slice-aggregate-own
 unfolding quarter

@@ -1,15 +1,16 @@
 -- `pair_fits` looks at four runs: what stands before the cursor, the two halves, and what stands behind it.
 use native.Mathlib.Omega.{arith}
-use lib.ListN.{length-take, length-drop}
+use lib.ListN.{length-take}
 use borrow.Author.Needs.{needs}
-use Rattle.editor.proofs.Laws.Splices.{halves-lent, pair-fits}
+use Rattle.editor.proofs.Laws.Splices.{halves-lent, runs-small, pair-fits}
 use Rattle.editor.proofs.splices.pair_fits.Statement.{statement}
 use Rattle.editor.proofs.splices.pair_fits.Tie as tie
 
 runs-fit-requires : tie.Need-runs-fit-requires
 runs-fit-requires c κs =
     let start : tie.Start = search in
-    (halves-lent _ _ _ _ (start .pre .1), simp (length-take, length-drop) (omega (arith, start .pre .0 .0)))
+    let a = start .args in
+    (halves-lent _ _ _ _ (start .pre .1), omega (arith, runs-small (a .limit) (a .l) (a .r) (a .text .now) (a .x) (a .y) (a .pair .now) (start .pre .0 .0)))
 
 returns : tie.Need-returns
 returns c = pair-fits _ _ _ _ _ _ _ (c .runs-fit .ensures)
