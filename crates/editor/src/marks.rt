@@ -70,7 +70,11 @@ pub fn paste_key(n: Lengths, text: &mut [u8], held: &[u8]) -> EditorReply
     ensures { λ r. ⌜ EditsHeld r n (λ T p. bounded T quarter (pasted p)) (now (text .entry)) (now (held .entry)) (now (text .exit)) (now (held .entry)) ⌝ }
 {
     let mark = n.mark;
-    lifted_held(n, mark, recall_side(LONGEST_LINE, holding_sizes(n), text, held))
+    lifted_held(
+        n,
+        mark,
+        recall_side(LONGEST_LINE, holding_sizes(n), text, held),
+    )
 }
 
 // ---- The mark through a change

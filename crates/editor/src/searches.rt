@@ -131,14 +131,26 @@ fn exchange_readable(here: bool, n: Lengths, text: &[u8], side: &[u8]) -> bool
             let pair = &side[3 * QUARTER..4 * QUARTER];
             let x = n.xl;
             let end = x + n.xr;
-            runs_fit(LONGEST_LINE, &text[..l], &pair[..x], &pair[x..end], &text[back..])
+            runs_fit(
+                LONGEST_LINE,
+                &text[..l],
+                &pair[..x],
+                &pair[x..end],
+                &text[back..],
+            )
         }
         Mode::Quoted => {
             let quoted = n.quoted;
             let own = &side[..QUARTER];
             let x = quoted.l;
             let y = QUARTER - quoted.r;
-            runs_fit(LONGEST_LINE, &text[..l], &own[..x], &own[y..], &text[back..])
+            runs_fit(
+                LONGEST_LINE,
+                &text[..l],
+                &own[..x],
+                &own[y..],
+                &text[back..],
+            )
         }
     }
 }

@@ -94,7 +94,8 @@ pub fn delete_side(
 ) -> SideReply
     requires { ⌜ OnSide limit n (now text) (now recall) ⌝ }
     requires { ⌜ d ≤ roomOf way n ⌝ }
-    ensures { λ t. ⌜ EditsSide limit t n (carried Delete way (Reached d lines)) (now (text .entry)) (now (recall .entry)) (now (text .exit)) (now (recall .exit)) ⌝ }
+    ensures { λ t. ⌜ EditsSide limit t n (carried Delete way (Reached d lines)) (now (text .entry)) (now (recall .entry))
+        (now (text .exit)) (now (recall .exit)) ⌝ }
 {
     let l = n.l;
     let r = n.r;
@@ -136,7 +137,8 @@ fn carry_side(
 ) -> SideReply
     requires { ⌜ OnSide limit n (now text) (now recall) ⌝ }
     requires { ⌜ d ≤ roomOf way n ⌝ }
-    ensures { λ t. ⌜ EditsSide limit t n (carried action way (Reached d lines)) (now (text .entry)) (now (recall .entry)) (now (text .exit)) (now (recall .exit)) ⌝ }
+    ensures { λ t. ⌜ EditsSide limit t n (carried action way (Reached d lines)) (now (text .entry)) (now (recall .entry))
+        (now (text .exit)) (now (recall .exit)) ⌝ }
 {
     match action {
         Action::Move => move_side(way, d, lines, n, text),
@@ -155,7 +157,8 @@ pub fn function_side(
     recall: &mut [u8],
 ) -> SideReply
     requires { ⌜ OnSide limit n (now text) (now recall) ⌝ }
-    ensures { λ t. ⌜ EditsSide limit t n (function action way place) (now (text .entry)) (now (recall .entry)) (now (text .exit)) (now (recall .exit)) ⌝ }
+    ensures { λ t. ⌜ EditsSide limit t n (function action way place) (now (text .entry)) (now (recall .entry))
+        (now (text .exit)) (now (recall .exit)) ⌝ }
 {
     let l = n.l;
     let r = n.r;
@@ -188,15 +191,10 @@ pub fn recall_side(limit: usize, n: Sizes, text: &mut [u8], recall: &[u8]) -> Si
 }
 
 // A key on one side.
-pub fn on_side(
-    limit: usize,
-    e: Edit,
-    n: Sizes,
-    text: &mut [u8],
-    recall: &mut [u8],
-) -> SideReply
+pub fn on_side(limit: usize, e: Edit, n: Sizes, text: &mut [u8], recall: &mut [u8]) -> SideReply
     requires { ⌜ OnSide limit n (now text) (now recall) ⌝ }
-    ensures { λ t. ⌜ EditsSide limit t n (editing e) (now (text .entry)) (now (recall .entry)) (now (text .exit)) (now (recall .exit)) ⌝ }
+    ensures { λ t. ⌜ EditsSide limit t n (editing e) (now (text .entry)) (now (recall .entry))
+        (now (text .exit)) (now (recall .exit)) ⌝ }
 {
     match e {
         Edit::Insert(b) => insert_side(limit, b, n, text),

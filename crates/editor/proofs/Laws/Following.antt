@@ -22,7 +22,8 @@ use Rattle.editor.specs.Rules.Indents.{leftward, insertedRun, indentedLi
 use Rattle.editor.specs.Rules.Keys.{soundKey, sideOf, onSide, ofDocument, changeOf, cutTo, acted, pressed, fits, bounded, key}
 use Rattle.editor.specs.Rules.Bytes.{Stores, Edited, plainOf, lengthsOf, storesOf, editedTo, SoundTexts, Encoded}
 use Rattle.editor.specs.Wording.Promise.{Sound}
-use Rattle.editor.specs.Wording.Marks.{nothing, coming, going, inDocument, exchangeOf, cuts, markExchanged, markOf, markedAt, followedReply, Moderate, Followable}
+use Rattle.editor.specs.Wording.Marks.{nothing, coming, going, inDocument, exchangeOf, cuts, markExchanged, markOf, markedAt, followedReply}
+use Rattle.editor.specs.Wording.Marks.{Moderate, Followable}
 use Rattle.editor.proofs.Laws.Session.{measured}
 use Rattle.editor.proofs.Laws.Encoding.{session-encoded}
 use Rattle.editor.proofs.Laws.Outcomes.{bounded-done, bounded-full, bounded-long}

@@ -157,7 +157,8 @@ module _ (Q : ℕ) (n : Lengths) (b : Stores) (sound : Sound Q n b) where
         hr = same i .hr;
         mark = same i .mark;
       } in
-      handed-holds (2 * Q) (withPattern Quoted p) m side (record { texts = with-pattern-sound T Q Quoted p (encoded .sound .texts); mark = encoded .sound .mark })
+      handed-holds (2 * Q) (withPattern Quoted p) m side
+      (record { texts = with-pattern-sound T Q Quoted p (encoded .sound .texts); mark = encoded .sound .mark })
       (lengths ∙ sym e)
       (pattern-given T Q p (encoded .sound .texts)) here
 

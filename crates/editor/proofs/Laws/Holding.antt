@@ -1,5 +1,5 @@
 -- MARK, CUT and PASTE on record and stores: the document with the held text's store in the place of the recall text's, and the mark.
-use mathlib.Core.Path.{_≡_, refl, sym, ap, _∙_}
+use mathlib.Core.Path.{_≡_, sym, ap, _∙_}
 use mathlib.Core.Logic.{⊎-elim}
 use mathlib.Core.Bool.{true, false, and-true}
 use mathlib.Core.List.{List}
@@ -21,7 +21,7 @@ use Rattle.editor.specs.Rules.Plain.{Side, Plain, holding, quiet, rang, 
 use Rattle.editor.specs.Rules.LongLines.{longestLine, readable}
 use Rattle.editor.specs.Rules.Marks.{markWithin, wayTo, farTo}
 use Rattle.editor.specs.Rules.Keys.{carried, recalled, withMark, markedHere, withHolding, cutTo, cut, pasted, fits, bounded}
-use Rattle.editor.specs.Rules.Bytes.{Stores, Edited, sizesOf, holdingSizes, plainOf, lengthsOf, storesOf, unedited, editedTo, Encoded}
+use Rattle.editor.specs.Rules.Bytes.{Stores, Edited, sizesOf, holdingSizes, plainOf, lengthsOf, storesOf, editedTo, Encoded}
 use Rattle.editor.specs.Wording.Promise.{OnSide, SideEdited, written, EditsSide, Sound, stores}
 use Rattle.editor.specs.Wording.Marks.{markedAt, heldIn, heldReply}
 use Rattle.editor.proofs.Laws.Session.{measured, passed}

@@ -116,7 +116,8 @@ module _ (Q : ℕ) (n : Lengths) (b : Stores) (sound : Sound Q n b) where
     readable-main is =
         let long : Q ≡ 4 * Q - 3 * Q = omega arith in
         let half : n .xr ≡ n .xl + n .xr - n .xl = omega arith in
-        by-mode Main is _ (λ i. record { l = take (n .xl) (take (long i) (drop (3 * Q) (b .side))); r = take (half i) (drop (n .xl) (take (long i) (drop (3 * Q) (b .side)))) })
+        let lent : ℕ → List ℕ = λ k. take k (drop (3 * Q) (b .side)) in
+        by-mode Main is _ (λ i. record { l = take (n .xl) (lent (long i)); r = take (half i) (drop (n .xl) (lent (long i))) })
 
     abbrev ownLent : List ℕ
     ownLent = take Q (b .side)
@@ -129,5 +130,5 @@ module _ (Q : ℕ) (n : Lengths) (b : Stores) (sound : Sound Q n b) where
         let long : length (quarterOf Q 0 (b .side)) ≡ Q = length-quarter Q 3 0 (b .side) (measured Q b (sound .tabled) .side) (omega arith) in
         let zero : 0 * Q ≡ 0 = omega arith in
         let first : quarterOf Q 0 (b .side) ≡ ownLent = ap (λ k. take Q (drop k (b .side))) zero in
-        by-mode Quoted is _
-        (λ i. record { l = take (n .quoted .l) (first i); r = (ap₂ (λ k s. drop (k - n .quoted .r) s) long first ∙ sym (tail-lent (Q - n .quoted .r) ownLent)) i })
+        let last = ap₂ (λ k s. drop (k - n .quoted .r) s) long first ∙ sym (tail-lent (Q - n .quoted .r) ownLent) in
+        by-mode Quoted is _ (λ i. record { l = take (n .quoted .l) (first i); r = last i })

@@ -132,7 +132,8 @@ module _ (Q : ℕ) (n : Lengths) (b : Stores) (sound : Sound Q n b) where
     replace-refused failed e =
         let (match, over) = no-room here _ _ (sym tested ∙ failed) in
         let exceeds = substituted-exceeds T Q next next-sound (as-known ∙ match) .1 (rw finished-as over) in
-        (λ i. record { reply = e i; stores = b }) ∙ ap (editedTo Q n b) (sym (bounded-full T Q (substituted next) (fits-not T Q (substituted next .state) .1 exceeds)))
+        (λ i. record { reply = e i; stores = b })
+        ∙ ap (editedTo Q n b) (sym (bounded-full T Q (substituted next) (fits-not T Q (substituted next .state) .1 exceeds)))
 
     pub replace-fits : ok ≡ true → fits T Q (replaced p .state) ≡ true
     unfolding replaced substituted
@@ -152,7 +153,8 @@ module _ (Q : ℕ) (n : Lengths) (b : Stores) (sound : Sound Q n b) where
         (λ i. record { reply = e i; stores = b }) ∙ ap (editedTo Q n b) (sym (bounded-long T Q (replaced p) (replace-fits passed) long))
 
     -- What a substitution asks of the plain state handed over.
-    pub replace-substitutes : ok ≡ true → readable longestLine (replaced p .state) ≡ true → {m : Lengths} {c : Stores} → Holds Q (withReplacement (p .mode) p) m c
+    pub replace-substitutes : ok ≡ true → readable longestLine (replaced p .state) ≡ true
+        → {m : Lengths} {c : Stores} → Holds Q (withReplacement (p .mode) p) m c
         → (here ≡ matches (plainOf Q m c .pattern) (plainOf Q m c .main .text)) × (fits T Q (substituted (plainOf Q m c) .state) ≡ true)
         × (readable longestLine (substituted (plainOf Q m c) .state) ≡ true)
     unfolding replaced

@@ -3,12 +3,11 @@ use mathlib.Core.Path.{_≡_, refl, sym, ap, _∙_}
 use mathlib.Core.Bool.{Bool, true, false}
 use mathlib.Core.List.{List, [], _∷_, append-nil}
 use Prim.Native.Nat.{ℕ, _+_, _-_, _%_, _≤_, _<_}
-use native.Mathlib.Nat.{sub-zero}
 use native.Mathlib.Omega.{arith}
 use lib.ListN.{length, take, drop, length-append, length-take, length-drop}
 use lib.Seq.{length-take-le, take-length, take-take, drop-drop}
 use borrow.Author.Tests.{le-leb, lt-leb}
-use Rattle.gap.specs.Rules.Sequence.{part, zeros}
+use Rattle.gap.specs.Rules.Sequence.{part}
 use Rattle.gap.specs.Rules.Doc.{Doc, content, room, move, delete, times, passed, removed, splice}
 use Rattle.gap.specs.Rules.Nearest.{distance}
 use Rattle.gap.specs.Rules.Lines.{newline, since}
@@ -200,8 +199,8 @@ module _ {limit : ℕ} {n : Sizes} {text recall : List ℕ} (on : OnSide limit n
 
   pub recall-done : {t : SideReply} {report : Report} {textThen : List ℕ}
       → t ≡ doneReply report (record { l = n .l + n .rl; r = n .r + n .rr; rl = n .rl; rr = n .rr }) → report ≡ quiet
-      → n .rl + n .rr ≤ length text - (n .l + n .r) → linesFit limit (content (splice 0 0 pair doc)) ≡ true → textThen ≡ gapped (length text) (splice 0 0 pair doc)
-      → EditsSide limit t n recalled text recall textThen recall
+      → n .rl + n .rr ≤ length text - (n .l + n .r) → linesFit limit (content (splice 0 0 pair doc)) ≡ true
+      → textThen ≡ gapped (length text) (splice 0 0 pair doc) → EditsSide limit t n recalled text recall textThen recall
   unfolding recalled
   recall-done reply said room lines store =
       enters quiet pair reply said (omega (arith, on .gap .fits)) lines (rw first) (rw second) store
@@ -213,7 +212,8 @@ module _ {limit : ℕ} {n : Sizes} {text recall : List ℕ} (on : OnSide limit n
       enters-not (went (length (b ∷ spaces k)) 0) (leftward (b ∷ spaces k)) e (omega (arith, on .gap .fits, length-spaces k))
 
   pub spaced-long : (b k : ℕ) {t : SideReply} → t ≡ refusedReply LINE n → k < length text - (n .l + n .r)
-      → linesFit limit (content (splice 0 0 (leftward (b ∷ spaces k)) doc)) ≡ false → EditsSide limit t n (insertedRun (b ∷ spaces k)) text recall text recall
+      → linesFit limit (content (splice 0 0 (leftward (b ∷ spaces k)) doc)) ≡ false
+      → EditsSide limit t n (insertedRun (b ∷ spaces k)) text recall text recall
   unfolding insertedRun
   spaced-long b k e room long =
       enters-long (went (length (b ∷ spaces k)) 0) (leftward (b ∷ spaces k)) e (omega (arith, on .gap .fits, length-spaces k, room)) long
@@ -221,7 +221,8 @@ module _ {limit : ℕ} {n : Sizes} {text recall : List ℕ} (on : OnSide limit n
   pub spaced-done : (b k : ℕ) {t : SideReply} {report : Report} {textThen : List ℕ}
       → t ≡ doneReply report (record { l = n .l + (k + 1); r = n .r; rl = n .rl; rr = n .rr }) → report ≡ went (k + 1) 0
       → k < length text - (n .l + n .r) → linesFit limit (content (splice 0 0 (leftward (b ∷ spaces k)) doc)) ≡ true
-      → textThen ≡ gapped (length text) (splice 0 0 (leftward (b ∷ spaces k)) doc) → EditsSide limit t n (insertedRun (b ∷ spaces k)) text recall textThen recall
+      → textThen ≡ gapped (length text) (splice 0 0 (leftward (b ∷ spaces k)) doc)
+      → EditsSide limit t n (insertedRun (b ∷ spaces k)) text recall textThen recall
   unfolding insertedRun
   spaced-done b k reply said room lines store =
       let long : k + 1 ≡ length (b ∷ spaces k) = omega (arith, length-spaces k) in
@@ -235,7 +236,8 @@ module _ {limit : ℕ} {n : Sizes} {text recall : List ℕ} (on : OnSide limit n
   by-indent counted turns = turns ∙ ap (λ k. written limit n text recall (insertedRun (newline ∷ spaces k) (sideHeld n text recall))) counted
 
   pub by-column : {t : SideReply} {column : ℕ} {textThen : List ℕ} → column ≡ since (take (n .l) text)
-      → EditsSide limit t n (insertedRun (space ∷ spaces (7 - column % 8))) text recall textThen recall → EditsSide limit t n tabbed text recall textThen recall
+      → EditsSide limit t n (insertedRun (space ∷ spaces (7 - column % 8))) text recall textThen recall
+      → EditsSide limit t n tabbed text recall textThen recall
   unfolding tabbed ungap
   by-column {column = column} counted turns =
       let one-more : 1 + (7 - column % 8) ≡ 8 - since (take (n .l) text) % 8 = rw counted (omega arith) in
@@ -257,7 +259,8 @@ module _ {limit : ℕ} {n : Sizes} {text recall : List ℕ} (on : OnSide limit n
       → EditsSide limit t n (carried Move way (Reached d lines)) text recall textThen recall
   unfolding carried
   moved way {d} reply said h sizes store =
-      landed limit n text recall _ reply said (rw length-moves held-fits) (rw content-moves (on .lines)) (sizes ∙ moved-sizes way d h) store (sym (on .pair .holds))
+      landed limit n text recall _ reply said (rw length-moves held-fits) (rw content-moves (on .lines)) (sizes ∙ moved-sizes way d h) store
+      (sym (on .pair .holds))
 
   deleted-sizes : (way : Direction) (d : ℕ) → d ≤ roomOf way n
       → deletedBy way d n ≡ sizesOf (record { text = times (delete way) d doc; recall = removed way d doc })
@@ -270,7 +273,8 @@ module _ {limit : ℕ} {n : Sizes} {text recall : List ℕ} (on : OnSide limit n
       (same-sizes (simp (length-append, length-take, left) (omega arith)) (simp (length-drop, right))
       refl (simp (length-take, right) (omega arith)))
 
-  deleted-fits : (way : Direction) (d : ℕ) → d ≤ roomOf way n → length (times (delete way) d doc .l) + length (times (delete way) d doc .r) ≤ length text
+  deleted-fits : (way : Direction) (d : ℕ) → d ≤ roomOf way n
+      → length (times (delete way) d doc .l) + length (times (delete way) d doc .r) ≤ length text
   deleted-fits way d h =
       let lengths = ap (λ m. m .l + m .r) (deleted-sizes way d h) in
       omega (arith, lengths, deletions-shorten way d n, on .gap .fits)

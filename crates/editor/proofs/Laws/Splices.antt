@@ -67,7 +67,7 @@ module _ (limit l r : ℕ) (text : List ℕ) where
     newline-fits is looked =
         looked ∙ (ap (λ at. leb (at + length (lineOf lent)) limit) (sym (cond-true _ _ (eq-eqb b newline is))) ∙ spaced-fits)
 
-    pub other-fits : (b ≡ newline → ⊥) → {ok : Bool} {at : ℕ} → at ≡ since front → ok ≡ leb (at + 1 + k + length (lineOf lent)) limit
+    pub other-fits : ¬ (b ≡ newline) → {ok : Bool} {at : ℕ} → at ≡ since front → ok ≡ leb (at + 1 + k + length (lineOf lent)) limit
         → ok ≡ linesFit limit (content (splice 0 0 (leftward (b ∷ spaces k)) (ungap l r text)))
     other-fits other counted looked =
         looked
@@ -86,6 +86,15 @@ module _ (limit l r : ℕ) (text : List ℕ) where
   pair-fits x y pair looked =
       let half : x + y - x ≡ y = omega arith in
       looked ∙ ap (linesFit limit) (rw (insertions, half, tail-lent, append-assoc))
+
+-- A byte that is no newline, with k spaces behind it, makes its line so much longer.
+pub spaced-lines : (limit b k : ℕ) (d : Doc) → linesFit limit (content d) ≡ true → ¬ (b ≡ newline)
+    → linesFit limit (content (splice 0 0 (leftward (b ∷ spaces k)) d)) ≡ leb (since (d .l) + (1 + k) + length (lineOf (d .r))) limit
+spaced-lines limit b k d fits other =
+    let sum : since (d .l) + 1 + k ≡ since (d .l) + (1 + k) = omega arith in
+    ap (λ e. linesFit limit (content e)) (insertions (leftward (b ∷ spaces k)) d)
+    ∙ (fit-spaced limit b k (d .l) (d .r) fits
+    ∙ ap (λ at. leb (at + length (lineOf (d .r))) limit) (cond-false _ _ (ne-eqb b newline other) ∙ sum))
 
 -- A line that is broken, with no more spaces in front of its rest than stood there, becomes no longer.
 pub broken-fits : (limit k : ℕ) (d : Doc) → linesFit limit (content d) ≡ true → k ≤ since (d .l)

@@ -1,18 +1,21 @@
 -- No line longer than the reader takes (02, M-106): in every session no line of the document is, and which keys are refused as LINE. That LINE is
 -- given exactly where the finished document would have such a line, after FULL: refused-line in proofs/Theorems/Refusals.
 use mathlib.Core.Path.{_≡_, refl, sym, ap, _∙_}
-use mathlib.Core.Logic.{_↔_}
+use mathlib.Core.Logic.{_↔_, ⊎-elim}
 use mathlib.Core.Bool.{true, false}
-use mathlib.Core.List.{[]}
-use Prim.Native.Nat.{ℕ, _+_, _≤_, _<_}
+use mathlib.Core.List.{[], _∷_}
+use Prim.Native.Nat.{ℕ, _+_, _-_, _%_, _≤_, _<_}
 use native.Mathlib.Omega.{arith}
+use borrow.Author.Tests.{leb-false, lt-leb}
 use lib.ListN.{length, getD}
-use Rattle.gap.specs.Rules.Doc.{content, delete, times}
+use Rattle.gap.specs.Rules.Doc.{content, delete, times, splice}
 use Rattle.gap.specs.Rules.Lines.{newline, since, lines}
 use Rattle.gap.specs.Rules.Fields.{lineOf}
-use Rattle.gap.specs.Rules.Indents.{spaces, currentLine, indent}
-use Rattle.gap.proofs.Laws.Tests.{clash}
-use Rattle.gap.proofs.Laws.Indents.{leading-fits, length-current}
+use Rattle.gap.specs.Rules.Indents.{space, spaces, currentLine, indent}
+use Rattle.gap.specs.Rules.Layout.{allowed}
+use Rattle.gap.specs.Rules.LineLimits.{linesFit}
+use Rattle.gap.proofs.Laws.Tests.{decided, clash}
+use Rattle.gap.proofs.Laws.Indents.{spaces-suc, leading-fits, length-current}
 use Rattle.gap.proofs.Theorems.LineLimits.{every-line-fits}
 use Rattle.editor.specs.Words.{Direction, Reached, Move, Delete, Place, Mode, Main, Quoted, At}
 use Rattle.editor.specs.Words.{Key, Insert, Function, Recall, Quote, Find, Mark, Cut, Newline, Tab}
@@ -24,16 +27,16 @@ use Rattle.editor.specs.Rules.LongLines.{longestLine, readable}
 use Rattle.editor.specs.Rules.Places.{isAt}
 use Rattle.editor.specs.Rules.Passages.{passageTo}
 use Rattle.editor.specs.Rules.Marks.{wayTo, farTo}
-use Rattle.editor.specs.Rules.Indents.{insertedRun, newlined}
+use Rattle.editor.specs.Rules.Indents.{leftward, insertedRun, newlined, tabbed}
 use Rattle.editor.specs.Rules.Keys.{isMain, soundFunction, soundKey, inserted, carried, function, sideOf, withSide, onSide}
 use Rattle.editor.specs.Rules.Keys.{markedHere, cutTo, acted, pressed, fits, key, after, Unsound, Exceeds, LongLine}
 use Rattle.editor.specs.Rules.Bytes.{SoundTexts}
 use Rattle.editor.specs.Wording.Promise.{editing}
-use Rattle.editor.proofs.Laws.Outcomes.{line-refused}
+use Rattle.editor.proofs.Laws.Outcomes.{full-refused, line-refused}
 use Rattle.editor.proofs.Laws.States.{function-fits, moved-lines, quoted-sound, found-sound}
 use Rattle.editor.proofs.Laws.MarkedStates.{marked-sound, cut-fits}
 use Rattle.editor.proofs.Laws.Keeps.{fits-acted, lines-acted}
-use Rattle.editor.proofs.Laws.Splices.{broken-fits, deleted-long}
+use Rattle.editor.proofs.Laws.Splices.{spaced-lines, broken-fits, deleted-long}
 use Rattle.editor.proofs.Theorems.Refusals.{refused-full}
 
 -- In every session the reader takes every line of the document. (02, M-106: a session needs it too.)
@@ -129,7 +132,7 @@ module _ (T Q : ℕ) (p : Plain) (sound : SoundTexts T Q p) where
   insert-newline-never-line =
       never-line (Insert newline) (broken-lines (inserted newline) (broken-fits longestLine 0 (p .main .text) (sound .lines) (omega arith)))
 
-  -- ---- Deletions that join lines
+  -- ---- Insertions, and deletions that join lines
 
   line-when : (k : Key) → soundKey (p .mode) k ≡ true → fits T Q (acted k p .state) ≡ true
       → (key T Q k p ≡ refused LINE) ↔ (readable longestLine (acted k p .state) ≡ false)
@@ -147,6 +150,42 @@ module _ (T Q : ℕ) (p : Plain) (sound : SoundTexts T Q p) where
           → readable longestLine (withSide mode (edit (sideOf mode p) .state) p) ≡ readable longestLine (withSide Main (edit (p .main) .state) p)
       go Main e = refl
       go Quoted e = clash (ap isMain e) refl
+
+  line-unless-full : (k : Key) → soundKey (p .mode) k ≡ true → ¬ (key T Q k p ≡ refused FULL)
+      → (key T Q k p ≡ refused LINE) ↔ (readable longestLine (acted k p .state) ≡ false)
+  line-unless-full k ok not-full =
+      line-when k ok
+      (⊎-elim (λ t. t) (λ t. absurd (not-full (full-refused T Q k p .1 (ok, fits-acted T Q k p ∙ t)))) (decided (fits T Q (acted k p .state))))
+
+  -- An insertion in the document that has room is refused as LINE exactly where its line would have one byte too many; so is TAB with its spaces.
+  spaced-line : (k : Key) (edit : Side → Did Side) (b n : ℕ) → acted k p ≡ onSide edit p → p .mode ≡ Main → soundKey (p .mode) k ≡ true
+      → ¬ (key T Q k p ≡ refused FULL) → ¬ (b ≡ newline) → edit (p .main) .state .text ≡ splice 0 0 (leftward (b ∷ spaces n)) (p .main .text)
+      → (key T Q k p ≡ refused LINE) ↔ (longestLine < since (p .main .text .l) + (1 + n) + length (lineOf (p .main .text .r)))
+  spaced-line k edit b n so main ok not-full other puts =
+      let when = line-unless-full k ok not-full in
+      let in-line = ap (λ did. readable longestLine (did .state)) so
+      ∙ (main-lines edit main
+      ∙ (ap (λ d. linesFit longestLine (content d)) puts ∙ spaced-lines longestLine b n (p .main .text) (sound .lines) other)) in (
+        λ e. leb-false _ _ (sym in-line ∙ when .0 e),
+        λ long. when .1 (in-line ∙ lt-leb _ _ long),
+      )
+
+  pub insert-line : (b : ℕ) → p .mode ≡ Main → allowed b ≡ true → ¬ (b ≡ newline) → ¬ (key T Q (Insert b) p ≡ refused FULL)
+      → (key T Q (Insert b) p ≡ refused LINE) ↔ (longestLine < since (p .main .text .l) + 1 + length (lineOf (p .main .text .r)))
+  unfolding acted soundKey inserted spaces
+  insert-line b main ok other not-full = spaced-line (Insert b) (inserted b) b 0 refl main ok not-full other refl
+
+  pub tab-line : p .mode ≡ Main → ¬ (key T Q Tab p ≡ refused FULL)
+      → let column = since (p .main .text .l) in
+      (key T Q Tab p ≡ refused LINE) ↔ (longestLine < column + (8 - column % 8) + length (lineOf (p .main .text .r)))
+  unfolding acted soundKey tabbed insertedRun
+  tab-line main not-full =
+      let column = since (p .main .text .l) in
+      let more : 1 + (7 - column % 8) ≡ 8 - column % 8 = omega arith in
+      let run = ap spaces (sym more) ∙ spaces-suc (7 - column % 8) in
+      rw (← more)
+      (spaced-line Tab tabbed space (7 - column % 8) refl main refl not-full (λ e. absurd (omega (arith, e)))
+      (ap (λ run. splice 0 0 (leftward run) (p .main .text)) run))
 
   -- A deletion in the document is refused as LINE exactly where the line that it joins is too long.
   pub delete-line : (way : Direction) (place : Place) (d crossed : ℕ) → p .mode ≡ Main → soundFunction Delete way place ≡ true

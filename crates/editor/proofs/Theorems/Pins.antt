@@ -36,57 +36,61 @@ use Rattle.editor.specs.Tables.SessionPins.{layoutPins, sessionPins}
 
 pub places-pinned : broken onPlain placePins ≡ []
 unfolding sameBytes bytes move delete times nearest distance passed withLines passageTo newlines allOf broken markedAfter lineBeginning
-    lineEnding word documentEnd isAt soundKey carried function onSide acted changeOf markThrough pressed linesFit noneLonger lines longestLine fits bounded key quarter unmarked
-    markAfter states statesAll seeing seenIn onPlain
+    lineEnding word documentEnd isAt soundKey carried function onSide acted changeOf markThrough pressed linesFit noneLonger lines longestLine
+    fits bounded key quarter unmarked markAfter states statesAll seeing seenIn onPlain
 places-pinned = refl
 
 pub edits-pinned : broken onPlain editPins ≡ []
 unfolding sameBytes bytes move delete times passed removed splice nearest distance withLines passageTo newlines allOf broken markedAfter
-    lineBeginning lineEnding word documentEnd isAt soundKey inserted carried function recalled onSide quoted acted changeOf markThrough
-    pressed linesFit noneLonger lines longestLine fits bounded key quarter unmarked markAfter states statesAll seeing seenIn onPlain
+    lineBeginning lineEnding word documentEnd isAt soundKey inserted carried function recalled onSide quoted acted changeOf markThrough pressed
+    linesFit noneLonger lines longestLine fits bounded key quarter unmarked markAfter states statesAll seeing seenIn onPlain
 edits-pinned = refl
 
 pub quotations-pinned : broken onPlain quotationPins ≡ []
 unfolding sameBytes bytes move delete times passed removed splice nearest distance withLines passageTo newlines allOf broken markedAfter
-    lineBeginning word isAt soundKey inserted carried function recalled onSide quoted acted changeOf markThrough pressed linesFit noneLonger lines longestLine fits bounded key
-    quarter unmarked markAfter states statesAll seeing seenIn onPlain
+    lineBeginning word isAt soundKey inserted carried function recalled onSide quoted acted changeOf markThrough pressed linesFit noneLonger
+    lines longestLine fits bounded key quarter unmarked markAfter states statesAll seeing seenIn onPlain
 quotations-pinned = refl
 
 pub searches-pinned : broken onPlain searchPins ≡ []
 unfolding sameBytes begins bytes move delete times passed removed splice nearest distance withLines passageTo newlines allOf broken
-    markedAfter isAt soundKey inserted carried function onSide quoted withPattern searched found withReplacement exchanged substituted
-    replaced acted changeOf markThrough pressed linesFit noneLonger lines longestLine fits bounded key quarter unmarked markAfter states statesAll seeing seenIn onPlain
+    markedAfter isAt soundKey inserted carried function onSide quoted withPattern searched found withReplacement exchanged substituted replaced
+    acted changeOf markThrough pressed linesFit noneLonger lines longestLine fits bounded key quarter unmarked markAfter states statesAll seeing
+    seenIn onPlain
 searches-pinned = refl
 
 pub replacements-pinned : broken onPlain replacePins ≡ []
 unfolding sameBytes begins bytes move delete times passed removed splice nearest distance withLines passageTo newlines allOf broken
-    markedAfter isAt soundKey inserted carried function onSide quoted withPattern searched found withReplacement exchanged substituted
-    replaced acted changeOf markThrough pressed linesFit noneLonger lines longestLine fits bounded key quarter unmarked markAfter states statesAll seeing seenIn onPlain
+    markedAfter isAt soundKey inserted carried function onSide quoted withPattern searched found withReplacement exchanged substituted replaced
+    acted changeOf markThrough pressed linesFit noneLonger lines longestLine fits bounded key quarter unmarked markAfter states statesAll seeing
+    seenIn onPlain
 replacements-pinned = refl
 
 pub marks-pinned : broken onPlain (markPins ++ (cutPins ++ pastePins)) ≡ []
 unfolding sameBytes begins bytes move delete times passed removed splice nearest distance withLines passageTo newlines allOf broken
     markedAfter lineBeginning word documentEnd isAt soundKey inserted carried function recalled onSide quoted withPattern searched found
-    withReplacement exchanged substituted replaced markedHere cutTo pasted acted changeOf markThrough pressed linesFit noneLonger lines longestLine fits bounded key quarter
-    unmarked markAfter states statesAll seeing seenIn onPlain
+    withReplacement exchanged substituted replaced markedHere cutTo pasted acted changeOf markThrough pressed linesFit noneLonger lines
+    longestLine fits bounded key quarter unmarked markAfter states statesAll seeing seenIn onPlain
 marks-pinned = refl
 
 pub changes-pinned : broken itself changePins ≡ []
 unfolding sameBytes begins bytes move delete times passed removed splice nearest distance withLines passageTo newlines allOf broken
     markedAfter lineBeginning word documentEnd isAt soundKey inserted carried function recalled onSide quoted withPattern searched found
-    withReplacement exchanged substituted replaced markedHere cutTo pasted acted changeOf markThrough pressed linesFit noneLonger lines longestLine fits bounded key quarter
-    unmarked markAfter seeing seenIn
+    withReplacement exchanged substituted replaced markedHere cutTo pasted acted changeOf markThrough pressed linesFit noneLonger lines
+    longestLine fits bounded key quarter unmarked markAfter seeing seenIn
 changes-pinned = refl
 
 pub indents-pinned : broken onPlain (newlinePins ++ tabPins) ≡ []
 unfolding sameBytes bytes move delete times passed removed splice nearest distance withLines passageTo newlines sinceAfter spaces leading
     indent allOf broken markedAfter isAt soundKey inserted carried function recalled onSide quoted markedHere insertedRun newlined tabbed acted
-    changeOf markThrough pressed linesFit noneLonger lines longestLine fits bounded key quarter unmarked markAfter states statesAll seeing seenIn onPlain
+    changeOf markThrough pressed linesFit noneLonger lines longestLine fits bounded key quarter unmarked markAfter states statesAll seeing
+    seenIn onPlain
 indents-pinned = refl
 
 pub indent-changes-pinned : broken itself indentPins ≡ []
 unfolding sameBytes bytes move times splice sinceAfter spaces leading indent allOf broken markedAfter isAt soundKey inserted onSide quoted
-    insertedRun newlined tabbed acted changeOf markThrough pressed linesFit noneLonger lines longestLine fits bounded key quarter unmarked markAfter seeing seenIn
+    insertedRun newlined tabbed acted changeOf markThrough pressed linesFit noneLonger lines longestLine fits bounded key quarter unmarked
+    markAfter seeing seenIn
 indent-changes-pinned = refl
 
 pub margins-pinned : broken itself marginPins ≡ []
@@ -95,15 +99,15 @@ margins-pinned = refl
 
 pub lines-pinned : broken itself linePins ≡ []
 unfolding every sameBytes begins part zeros bytes move delete times passed removed splice nearest distance withLines passageTo newlines
-    sinceAfter spaces leading indent ungap unpair soundGap soundPair allOf broken markedAfter isAt documentEnd soundKey inserted carried function
-    recalled onSide quoted withReplacement exchanged substituted replaced markedHere cutTo pasted insertedRun newlined tabbed acted changeOf
-    markThrough pressed linesFit noneLonger lines longestLine fits bounded key quarter editorOk seeing
+    sinceAfter spaces leading indent ungap unpair soundGap soundPair allOf broken markedAfter isAt documentEnd soundKey inserted carried
+    function recalled onSide quoted withReplacement exchanged substituted replaced markedHere cutTo pasted insertedRun newlined tabbed acted
+    changeOf markThrough pressed linesFit noneLonger lines longestLine fits bounded key quarter editorOk seeing
 lines-pinned = refl
 
 pub layouts-pinned : broken itself layoutPins ≡ []
 unfolding sameBytes part zeros bytes move times splice nearest distance passed withLines passageTo newlines gapped paired ungap unpair allOf
-    broken markedAfter storedAs isAt soundKey inserted carried function onSide quoted acted changeOf markThrough pressed linesFit noneLonger lines longestLine fits bounded key
-    keys quarter sized plainOf lengthsOf storesOf
+    broken markedAfter storedAs isAt soundKey inserted carried function onSide quoted acted changeOf markThrough pressed linesFit noneLonger
+    lines longestLine fits bounded key keys quarter sized plainOf lengthsOf storesOf
 layouts-pinned = refl
 
 pub sessions-pinned : broken itself sessionPins ≡ []

@@ -77,7 +77,11 @@ linePins =
     ∷ refuses 6 1024 (letters 1024 []) [] (Quote ∷ Insert 97 ∷ Replace ∷ [])
     ∷ [])
     ∷ sentence "a refused deletion leaves text, recall text, held pair and mark"
-    (isDoc (joined .main .recall) "|b" ∷ isDoc (joined .held) "|a" ∷ sameMarking (joined .mark) (At 501) ∷ eqb (length (content (joined .main .text))) 1026 ∷ [])
+    (isDoc (joined .main .recall) "|b"
+    ∷ isDoc (joined .held) "|a"
+    ∷ sameMarking (joined .mark) (At 501)
+    ∷ eqb (length (content (joined .main .text))) 1026
+    ∷ [])
     ∷ sentence "the quotation has no such limit, and the document with the quotation in it is not looked at"
     (goes 1100 (letters 1024 []) [] (Quote ∷ Insert 97 ∷ Insert 97 ∷ []) ∷ goes 1100 (letters 1024 []) [] (Quote ∷ Tab ∷ []) ∷ [])
     ∷ sentence "a refused REPLACE stays in QUOTED with everything as it was"

@@ -1,10 +1,7 @@
 -- `paste_key` is a RECALL of the held pair.
-use mathlib.Core.Path.{sym, subst}
 use borrow.Author.Needs.{needs}
 use Rattle.editor.specs.Rules.LongLines.{longestLine}
 use Rattle.editor.specs.Rules.Bytes.{quarter}
-use Rattle.editor.specs.Rules.Keys.{recalled}
-use Rattle.editor.specs.Wording.Promise.{OnSide, EditsSide}
 use Rattle.editor.proofs.Laws.Holding.{paste-done}
 use Rattle.editor.proofs.marks.paste_key.Statement.{statement}
 use Rattle.editor.proofs.marks.paste_key.Tie as tie

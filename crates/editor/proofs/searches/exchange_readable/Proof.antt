@@ -1,5 +1,5 @@
 -- `exchange_readable` looks at four runs: what stands before the cursor, the two halves of the replacement, and what stands behind the pattern.
-use mathlib.Core.Path.{_≡_, sym, _∙_}
+use mathlib.Core.Path.{sym, _∙_}
 use Prim.Native.Nat.{_≤_}
 use native.Mathlib.Omega.{arith}
 use lib.ListN.{length-take, length-drop}

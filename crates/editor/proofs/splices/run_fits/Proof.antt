@@ -3,7 +3,7 @@ use native.Mathlib.Omega.{arith}
 use lib.ListN.{length-take, take}
 use borrow.Author.Needs.{needs}
 use Rattle.gap.proofs.Laws.Lines.{since-fits}
-use Rattle.editor.proofs.Laws.Splices.{newline-fits, other-fits}
+use Rattle.editor.proofs.Laws.Splices.{short-take, newline-fits, other-fits}
 use Rattle.editor.proofs.splices.run_fits.Statement.{statement}
 use Rattle.editor.proofs.splices.run_fits.Tie as tie
 
@@ -16,12 +16,14 @@ returns c =
 add-at : tie.Need-add-at
 add-at c =
     let start : tie.Start = search in
-    omega (arith, start .pre .0, c .since-newline .ensures, since-fits 0 (take (start .args .l) (start .args .text .now)), length-take (start .args .l) (start .args .text .now))
+    let l = start .args .l in let text = start .args .text .now in
+    omega (arith, start .pre .0, c .since-newline .ensures, since-fits 0 (take l text), short-take l text)
 
 add-line-fits : tie.Need-add-line-fits
 add-line-fits c =
     let counted : tie.After-since-newline = search in let start : tie.Start = search in
-    omega (arith, start .pre .0, counted .since-newline .ensures, since-fits 0 (take (start .args .l) (start .args .text .now)), length-take (start .args .l) (start .args .text .now))
+    let l = start .args .l in let text = start .args .text .now in
+    omega (arith, start .pre .0, counted .since-newline .ensures, since-fits 0 (take l text), short-take l text)
 
 returns-2 : tie.Need-returns-2
 returns-2 c =
