@@ -1,5 +1,6 @@
 -- The wrong editors that document 01 names, each with the theorem that it does not keep the promise. (01, how a wrong editor is kept out.)
 use mathlib.Core.Path.{_≡_, refl, sym, ap, _∙_}
+use mathlib.Core.Logic.{_≢_}
 use mathlib.Core.Bool.{true, _&&_}
 use mathlib.Core.List.{List, [], _∷_}
 use Prim.Native.Nat.{ℕ, zero, suc, _*_}
@@ -15,6 +16,7 @@ use Rattle.gap.proofs.Laws.Tests.{and-left, and-right}
 use Rattle.gap.proofs.Laws.Sequence.{same-equal}
 use Rattle.gap.specs.Rules.LineLimits.{noneLonger, linesFit, longLine}
 use Rattle.gap.specs.Rules.Fields.{lineOf, lineAt}
+use Rattle.editor.specs.Rules.Refusals.{LINE}
 use Rattle.editor.specs.Rules.LongLines.{longestLine}
 use Rattle.editor.specs.Rules.Passages.{withLines, passageTo}
 use Rattle.editor.specs.Rules.Places.{lineBeginning, word, isAt}
@@ -208,10 +210,11 @@ inventing-out steps well =
 pub invented-distance : (steps : Session → Key → Lent → ℕ) → PressesWell (inventing steps) → (s : Session) (b : Lent) → OnSession s b
     → let p = held s (b .stores) in
     (action : Action) (way : Direction) (place : Place) → ¬ Unsound (p .mode) (Function action way place)
+    → keyed s (Function action way place) b .answer .code ≢ LINE
     → (n : ℕ) → LeastMoves way (isAt place way) (textIn (p .mode) p) n → steps s (Function action way place) b ≡ n
-invented-distance steps well s b on action way place good n least =
+invented-distance steps well s b on action way place good fits n least =
     let k = Function action way place in
-    ap (λ report. report .steps) (steps-moved s b on (inventing steps s k b) action way place (well s k b) good .steps n .1 least .1)
+    ap (λ report. report .steps) (steps-moved s b on (inventing steps s k b) action way place (well s k b) good fits .steps n .1 least .1)
 
 -- ---- All rows named each time (demand 3: the shortest run)
 
