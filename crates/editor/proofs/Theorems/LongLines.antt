@@ -34,7 +34,7 @@ use Rattle.editor.specs.Rules.Bytes.{SoundTexts}
 use Rattle.editor.specs.Wording.Promise.{editing}
 use Rattle.editor.proofs.Laws.Outcomes.{full-refused, line-refused}
 use Rattle.editor.proofs.Laws.States.{function-fits, moved-lines, quoted-sound, found-sound}
-use Rattle.editor.proofs.Laws.MarkedStates.{marked-sound, cut-fits}
+use Rattle.editor.proofs.Laws.MarkedStates.{cut-fits}
 use Rattle.editor.proofs.Laws.Keeps.{fits-acted, lines-acted}
 use Rattle.editor.proofs.Laws.Splices.{spaced-lines, broken-fits, deleted-long}
 use Rattle.editor.proofs.Theorems.Refusals.{refused-full}
@@ -87,7 +87,7 @@ module _ (T Q : ℕ) (p : Plain) (sound : SoundTexts T Q p) where
 
   pub mark-never-line : ¬ (key T Q Mark p ≡ refused LINE)
   unfolding acted markedHere
-  mark-never-line = never-line Mark (marked-sound T Q _ p sound .lines)
+  mark-never-line = never-line Mark (sound .lines)
 
   -- Every edit of a quotation does: the quotation has no such limit, and the document with the quotation in it is not looked at.
   quoted-lines : (edit : Side → Did Side) → p .mode ≡ Quoted → readable longestLine (onSide edit p .state) ≡ true
