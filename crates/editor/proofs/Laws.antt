@@ -23,3 +23,4 @@ pub mod Fitting
 pub mod FindReplace
 pub mod ReplaceRoom
 pub mod Opening
+pub mod Conversion

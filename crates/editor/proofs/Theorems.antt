@@ -9,3 +9,4 @@ pub mod Marks
 pub mod Cuts
 pub mod Indents
 pub mod Pins
+pub mod Conversion

@@ -7,3 +7,4 @@ pub mod Plain
 pub mod Indents
 pub mod Keys
 pub mod Bytes
+pub mod Conversion

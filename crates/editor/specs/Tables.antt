@@ -6,3 +6,4 @@ pub mod MarkPins
 pub mod CutPins
 pub mod IndentPins
 pub mod SessionPins
+pub mod ConversionPins

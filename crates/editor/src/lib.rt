@@ -1,4 +1,5 @@
 // The editor layer: keys on a document, a quotation and their recall texts, without a screen.
+pub mod conversion;
 pub mod finds;
 pub mod indents;
 pub mod keys;
@@ -80,7 +81,7 @@ pub enum Edit {
 }
 
 // The length of a quarter of the side store.
-pub const QUARTER: usize = 256;
+pub const QUARTER: usize = 1024;
 
 // The lengths of one side: a text left and right of its cursor, and both halves of its recall text.
 pub struct Sizes {
