@@ -56,6 +56,8 @@ pub fn all(t: usize, h: usize, w: usize) -> Vec<Scene> {
         scene("FIND, odd letter last", &letters, &with_pattern(&last), &[FIND]),
         scene("FIND, odd letter within", &letters, &with_pattern(&within), &[FIND]),
         scene("QUOTE in and out", &text, &middle, &[QUOTE, QUOTE]),
+        scene("typing in a quotation", &text, &[&middle[..], &[QUOTE]].concat(), &typed),
+        scene("FIND of a quotation", &text, &[&middle[..], &[QUOTE], &typing(b"operates")].concat(), &[FIND]),
     ]
 }
 

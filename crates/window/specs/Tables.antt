@@ -5,3 +5,4 @@ pub mod CallPins
 pub mod TerminalPins
 pub mod SendSamples
 pub mod HostNumbers
+pub mod ConversionPins

@@ -5,7 +5,7 @@ use super::places::{distance_left, distance_right, find_left, find_right, Direct
 use super::texts::Side;
 use crate::chidukwore::{self, Record, NO_MARK};
 
-pub const QUARTER: usize = 256;
+pub const QUARTER: usize = 1024;
 
 #[derive(Clone, Copy)]
 pub enum Action {

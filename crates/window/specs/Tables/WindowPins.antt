@@ -1,5 +1,5 @@
 -- What document 01 says of the window, each sentence with its examples: they open a text on bytes and press keys, as the edges do.
-use Rattle.window.specs.Words.{List, [], _∷_, _++_, Bool, ℕ, _-_, length, Character, LineBeginning, Document}
+use Rattle.window.specs.Words.{List, [], _∷_, _++_, Bool, ℕ, _-_, _*_, length, Character, LineBeginning, Document}
 use Rattle.window.specs.Words.{Key, Insert, Quote, Mark, Cut, Main, Unmarked}
 use Prim.Native.String.{String}
 use Rattle.gap.specs.Rules.Sequence.{zeros}
@@ -7,6 +7,7 @@ use Rattle.gap.specs.Rules.Doc.{Doc, content}
 use Rattle.gap.specs.Tables.Sentence.{Sentence, sentence}
 use Rattle.gap.specs.Tables.Written.{marked}
 use Rattle.editor.specs.Tables.KeyExamples.{Seen, KeyExample, statesAll, moveLeft, moveRight, deleteRight, typed}
+use Rattle.editor.specs.Rules.Bytes.{quarter}
 use Rattle.editor.specs.Tables.SessionPins.{sizes, lengths}
 use Rattle.window.specs.Rules.Core.{Called, held, refusal}
 use Rattle.window.specs.Tables.Table.{Fact, Code, Offsets, Cursor, Named, Shows, Edge, pressing, outcome, allHold}
@@ -89,7 +90,7 @@ standingBytes T d =
           };
       lent =
           record {
-            stores = record { text = d .l ++ (zeros (T - length (content d)) ++ d .r); recall = zeros T; held = zeros T; side = zeros 1024 };
+            stores = record { text = d .l ++ (zeros (T - length (content d)) ++ d .r); recall = zeros T; held = zeros T; side = zeros (4 * quarter) };
             screen = zeros 30;
           };
     }

@@ -29,7 +29,8 @@ fit : (c : tie.Else1) → tabled (start c .args .s .frame .h) (start c .args .s 
 fit c = sym (c .before .tabled-stores .ensures) ∙ not-false _ (c .if1 .left)
 
 session-test-requires : tie.Need-session-test-requires
-session-test-requires c κs = let else1 : tie.Else1 = search in tabled-facts _ _ _ (fit else1) .stores
+unfolding quarter
+session-test-requires c κs = let else1 : tie.Else1 = search in (omega arith, tabled-facts _ _ _ (fit else1) .stores)
 
 returns-2 : tie.Need-returns-2
 returns-2 c =
