@@ -11,12 +11,11 @@ use gap::lines::count_newlines;
 use gap::lines::since_newline;
 ghost use mathlib.Core.Path.{_≡_};
 ghost use mathlib.Core.Bool.{false};
-ghost use Prim.Native.Nat.{ℕ, _≤_};
+ghost use Prim.Native.Nat.{_≤_};
 ghost use lib.ListN.{length};
-ghost use Rattle.editor.specs.Rules.Bytes.{quarter};
 ghost use Rattle.editor.specs.Wording.Marks.{cuts};
 ghost use Rattle.window.specs.Rules.Window.{policyRow, policyColumn};
-ghost use Rattle.window.specs.Wording.Calls.{newlinesLeft, LeftCounted, visibleAt, policyAt, TextsIn, IsSpot};
+ghost use Rattle.window.specs.Wording.Calls.{newlinesLeft, LeftCounted, visibleAt, policyAt, HasTexts, IsSpot};
 
 // The newlines left of the document's cursor.
 pub fn newlines_left(n: Lengths, text: &[u8]) -> usize
@@ -83,7 +82,7 @@ pub fn newlines_now(k: Key, above: usize, was: Sizes, done: EditorReply, text: &
 
 // Row from 1 and column from 0, over the texts left of the cursor only.
 pub fn cursor(above: usize, n: Lengths, text: &[u8], side: &[u8]) -> Spot
-    requires { ⌜ (Q : ℕ) × (Q ≤ quarter) × TextsIn Q n (now text) (now side) ⌝ }
+    requires { ⌜ HasTexts n (now text) (now side) ⌝ }
     requires { ⌜ above ≡ newlinesLeft (n .main .l) (now text) ⌝ }
     ensures { λ s. ⌜ IsSpot s n (now (text .entry)) (now (side .entry)) ⌝ }
 {

@@ -75,7 +75,8 @@ module _ (s : Session) (b : Stores) (side : List ℕ) where
 
   pub convert-leaves : (converted s b side .answer .code ≡ 0 → ⊥) → converted s b side ≡ answering s (converted s b side .answer .code) side
   unfolding converted decision
-  convert-leaves bad = leaves-of _ _ (convertedSide oldQuarter quarter (s .lengths) b) bad
+  convert-leaves bad =
+      leaves-of (convertible (s .frame .h) (s .frame .w) b side) (wasSession s b) (convertedSide oldQuarter quarter (s .lengths) b) bad
 
   back-of : (t u : Bool) (new : List ℕ) → decision t u new .session ≡ s
   unfolding decision
@@ -85,7 +86,7 @@ module _ (s : Session) (b : Stores) (side : List ℕ) where
 
   pub convert-hands-back : converted s b side .session ≡ s
   unfolding converted decision
-  convert-hands-back = back-of _ _ (convertedSide oldQuarter quarter (s .lengths) b)
+  convert-hands-back = back-of (convertible (s .frame .h) (s .frame .w) b side) (wasSession s b) (convertedSide oldQuarter quarter (s .lengths) b)
 
 -- ---- One outcome
 
@@ -113,7 +114,7 @@ module _ (s : Session) (b : Stores) (side : List ℕ) (accepted : converted s b 
   -- The new side store holds what the definition says, whatever it held before.
   pub converted-side : converted s b side .side ≡ convertedSide oldQuarter quarter (s .lengths) b
   unfolding converted wasSession
-  converted-side = ap (λ o. o .side) (cond-true _ _ (passing .0) ∙ cond-true _ _ (passing .1))
+  converted-side = ap {A = Converted} (λ o. o .side) (cond-true _ _ (passing .0) ∙ cond-true _ _ (passing .1))
 
   same : newStores ≡ convertedStores oldQuarter quarter (s .lengths) b
   same = ap (λ new. record { text = b .text; recall = b .recall; held = b .held; side = new }) converted-side

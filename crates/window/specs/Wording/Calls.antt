@@ -67,6 +67,10 @@ virtualHeldIn Q n text side =
 abbrev pub virtualHeld : Lengths → List ℕ → List ℕ → Doc
 virtualHeld n text side = virtualHeldIn quarter n text side
 
+-- They lie there in quarters of some length, no longer than now.
+abbrev pub HasTexts : Lengths → List ℕ → List ℕ → Type 0
+HasTexts n text side = (Q : ℕ) × (Q ≤ quarter) × TextsIn Q n text side
+
 -- The spot of their cursor, whatever the length of a quarter is: it is left of the cursor that counts.
 abbrev pub IsSpot : Spot → Lengths → List ℕ → List ℕ → Type 0
 IsSpot s n text side = (Q : ℕ) → TextsIn Q n text side → s ≡ spotIn (virtualHeldIn Q n text side)
