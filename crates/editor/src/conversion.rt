@@ -1,7 +1,7 @@
 // Longer quarters: the side store of an old session becomes one of this layer's. (02, M-109.)
 use crate::QUARTER;
-use gap::runs::clear;
 use gap::runs::copy_at;
+use gap::runs::vacate;
 ghost use mathlib.Core.Path.{_≡_};
 ghost use Prim.Native.Nat.{_+_, _*_, _≤_};
 ghost use lib.ListN.{length};
@@ -43,7 +43,7 @@ pub fn lengthen(l: usize, r: usize, old: &[u8], side: &mut [u8])
     requires { ⌜ l + r ≤ oldQuarter ⌝ }
     ensures { λ _. ⌜ now (side .exit) ≡ lengthened oldQuarter quarter l r (now (old .entry)) ⌝ }
 {
-    clear(side);
+    vacate(side, 0, 4 * QUARTER);
     lengthen_quotation(l, r, old, side);
     lengthen_quarter(1, old, side);
     lengthen_quarter(2, old, side);

@@ -102,15 +102,21 @@ quotation-spread O Q l r old side long fits e1 e2 =
     let size : O ≡ length q = sym (length-quarter O 3 0 old long (omega arith)) in
     let on-right : r ≡ length (ungap l r q .r) = sym (length-right l r q (omega arith)) in
     let left-so = ap (take l) (lent-first O old) in
-    let right-so = take-all (length (take O old) - (O - r)) (drop (O - r) (take O old)) (rw length-drop (omega arith)) ∙ λ i. drop (size i - r) (lent-first O old i) in
+    let behind = drop (O - r) (take O old) in
+    let right-so = take-all (length (take O old) - (O - r)) behind (rw length-drop (omega arith)) ∙ λ i. drop (size i - r) (lent-first O old i) in
     e2 ∙ λ i. patch (Q - on-right i) (right-so i) ((e1 ∙ ap (λ run. patch 0 run side) left-so) i)
 
+-- A store of which every byte is made free.
+all-freed : (n : ℕ) (s : List ℕ) → length s ≡ n → patch 0 (zeros n) s ≡ zeros n
+all-freed n s long =
+    ap (patch 0 (zeros n)) (sym (append-nil s)) ∙ patch-middle [] s [] (zeros n) 0 refl (long ∙ sym (length-zeros n)) ∙ append-nil (zeros n)
+
 -- What `lengthen` leaves.
-pub quarters-lengthened : (O Q l r : ℕ) (old : List ℕ) → length old ≡ 4 * O → O ≤ Q → l + r ≤ O → {s0 s1 s2 s3 s4 : List ℕ}
-    → s0 ≡ zeros (4 * Q) → s1 ≡ spread Q (ungap l r (quarterOf O 0 old)) s0
+pub quarters-lengthened : (O Q l r : ℕ) (old side : List ℕ) → length old ≡ 4 * O → length side ≡ 4 * Q → O ≤ Q → l + r ≤ O → {s0 s1 s2 s3 s4 : List ℕ}
+    → s0 ≡ patch 0 (zeros (4 * Q)) side → s1 ≡ spread Q (ungap l r (quarterOf O 0 old)) s0
     → s2 ≡ patch (1 * Q) (quarterOf O 1 old) s1 → s3 ≡ patch (2 * Q) (quarterOf O 2 old) s2 → s4 ≡ patch (3 * Q) (quarterOf O 3 old) s3
     → s4 ≡ lengthened O Q l r old
-quarters-lengthened O Q l r old long more fits e0 e1 e2 e3 e4 =
+quarters-lengthened O Q l r old side long whole more fits e0 e1 e2 e3 e4 =
     let d = ungap l r (quarterOf O 0 old) in
     let size : length (quarterOf O 0 old) ≡ O = length-quarter O 3 0 old long (omega arith) in
     let on-left : length (d .l) ≡ l = length-left l r (quarterOf O 0 old) (omega arith) in
@@ -118,7 +124,7 @@ quarters-lengthened O Q l r old long more fits e0 e1 e2 e3 e4 =
     let short : (i : ℕ) → i ≤ 3 → length (quarterOf O i old) ≤ Q = λ i h. omega (arith, length-quarter O 3 i old long h) in
     e4
     ∙ ap (patch (3 * Q) (quarterOf O 3 old))
-    (e3 ∙ ap (patch (2 * Q) (quarterOf O 2 old)) (e2 ∙ ap (patch (1 * Q) (quarterOf O 1 old)) (e1 ∙ ap (spread Q d) e0)))
+    (e3 ∙ ap (patch (2 * Q) (quarterOf O 2 old)) (e2 ∙ ap (patch (1 * Q) (quarterOf O 1 old)) (e1 ∙ ap (spread Q d) (e0 ∙ all-freed (4 * Q) side whole))))
     ∙ put-all Q d _ _ _ (omega arith) (short 1 (omega arith)) (short 2 (omega arith)) (short 3 (omega arith))
 
 -- ---- The same plain state
