@@ -32,9 +32,8 @@ fn lengthen_quarter(i: usize, old: &[u8], side: &mut [u8])
     requires { ⌜ i ≤ 3 ⌝ }
     ensures { λ _. ⌜ now (side .exit) ≡ patch (i * quarter) (quarterOf oldQuarter i (now (old .entry))) (now (side .entry)) ⌝ }
 {
-    let from = i * OLD_QUARTER;
-    let end = from + OLD_QUARTER;
-    copy_at(side, i * QUARTER, &old[from..end]);
+    let end = (i + 1) * OLD_QUARTER;
+    copy_at(side, i * QUARTER, &old[end - OLD_QUARTER..end]);
 }
 
 // Whatever the new side store held is cleared; then each quarter goes into its longer one.

@@ -4,6 +4,7 @@ use mathlib.Core.Path.{_≡_, refl, sym, ap, ap₂, _∙_, fun-ext}
 use mathlib.Core.List.{List, _++_}
 use Prim.Native.Nat.{ℕ, zero, suc, _+_, _-_, _*_, _≤_}
 use native.Mathlib.Nat.{suc-mul, zero-mul, one-mul, mul-le-mul-right, not-suc-le-zero, le-of-suc-le-suc}
+use native.Mathlib.Numerals.{add-one}
 use native.Mathlib.Omega.{arith}
 use lib.ListN.{length, take, drop, length-append, length-drop, take-append-drop}
 use lib.Seq.{length-take-le, take-at, take-all, drop-append-add}
@@ -79,8 +80,11 @@ lent-quarter Q i j s e =
     let size : j - i * Q ≡ Q = omega (arith, suc-mul i Q) in
     ap (λ k. take k (drop (i * Q) s)) size
 
-pub lent-between : (Q i : ℕ) (s : List ℕ) → take (i * Q + Q - i * Q) (drop (i * Q) s) ≡ quarterOf Q i s
-lent-between Q i s = lent-quarter Q i (i * Q + Q) s (omega (arith, suc-mul i Q))
+pub lent-before : (Q i : ℕ) (s : List ℕ) → let end = (i + 1) * Q in take (end - (end - Q)) (drop (end - Q) s) ≡ quarterOf Q i s
+lent-before Q i s =
+    let end : (i + 1) * Q ≡ suc i * Q = ap (λ n. n * Q) (add-one i) in
+    let place : (i + 1) * Q - Q ≡ i * Q = omega (arith, end, suc-mul i Q) in
+    (λ k. take ((i + 1) * Q - place k) (drop (place k) s)) ∙ lent-quarter Q i ((i + 1) * Q) s end
 
 pub lent-second : (Q : ℕ) (s : List ℕ) → take (2 * Q - Q) (drop Q s) ≡ quarterOf Q 1 s
 lent-second Q s =
