@@ -124,10 +124,10 @@ struct chidukwore_reply chidukwore_key(struct chidukwore_record record, size_t k
                                        size_t text_length, uint8_t *recall, size_t recall_length, uint8_t *held, size_t held_length,
                                        uint8_t *side, size_t side_length, uint8_t *screen, size_t screen_length);
 
-/* Converts a session from before a quarter of the side store had 1,024 bytes. Then it had 256, so old is its side store of 1,024 bytes, and its
- * record is a session as said above with 256 in the place of 1,024. text, recall, held and old are only read. The new side store, of 4,096 bytes,
- * is written over, and goes on with the other three and with the record, which comes back as it was given. Of the answer only code is not 0.
- * Refused, no byte has changed. */
+/* Converts a session from before a quarter of the side store had 1,024 bytes. Then it had 256: old is the side store of 1,024 bytes, and
+ * with it the record is a session as said above, 256 in the place of 1,024. text, recall, held and old are only read. The new side store,
+ * of 4,096 bytes, is written over, and goes on with the other three and with the record, which comes back as it was given. Of the answer
+ * only code is not 0. Refused, no byte has changed. */
 struct chidukwore_reply chidukwore_convert(struct chidukwore_record record, const uint8_t *text, size_t text_length, const uint8_t *recall,
                                            size_t recall_length, const uint8_t *held, size_t held_length, const uint8_t *old,
                                            size_t old_length, uint8_t *side, size_t side_length);

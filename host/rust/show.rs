@@ -3,7 +3,9 @@
 
 mod chidukwore;
 
-use chidukwore::{insert, Answer, Key, OldStores, Record, Reply, Stores, CUT, FIND, MARK, NEWLINE, OLD_SIDE, PASTE, QUOTE, RECALL, SIDE, TAB};
+use chidukwore::{
+    insert, Answer, Key, OldStores, Record, Reply, Stores, CUT, FIND, MARK, NEWLINE, OLD_SIDE, PASTE, QUOTE, RECALL, SIDE, TAB,
+};
 use std::process::ExitCode;
 
 const T: usize = 16;
