@@ -1,7 +1,7 @@
 -- Each key has a name, no two keys have the same, and nothing else names a key. (01, the bench program: keys.)
 use mathlib.Core.Path.{_≡_, refl, sym, ap, _∙_}
 use mathlib.Core.Logic.{⊎-elim}
-use mathlib.Core.Bool.{true, cond, false≢true}
+use mathlib.Core.Bool.{cond, false≢true}
 use mathlib.Core.List.{List, [], _∷_, _++_, map}
 use Prim.Native.Nat.{ℕ}
 use Prim.Native.String.{String}
@@ -46,7 +46,8 @@ keyAt i = getD allKeys i Recall
 
 -- One test, computed over all of them.
 all-named : map (λ k. keyNamed (keyName k)) allKeys ≡ map Named allKeys
-unfolding every sameBytes begins counted bytes nearest valueAfter isNumber numberOf digitsIn decimal combinations functionNamed indentNamed markNamed keyNamed allKeys
+unfolding every sameBytes begins counted bytes nearest valueAfter isNumber numberOf digitsIn decimal combinations functionNamed indentNamed markNamed
+    keyNamed allKeys
 all-named = refl
 
 -- The name of a key names that key.
