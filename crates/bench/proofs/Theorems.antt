@@ -1,4 +1,6 @@
 pub mod Names
+pub mod Lines
+pub mod Blocks
 pub mod Samples
 pub mod Turns
 pub mod Pins

@@ -1,10 +1,12 @@
 -- The definitions give each name, block and limit of document 01's bench program.
 use mathlib.Core.Path.{_≡_, refl, ap, _∙_}
-use mathlib.Core.List.{List, [], _∷_, _++_, map}
+use mathlib.Core.List.{List, [], _∷_, _++_, map, append-nil}
 use mathlib.Core.Bool.{true, false}
-use Prim.Native.Nat.{ℕ, _*_, _≤_, _<_}
+use Prim.Native.Nat.{ℕ, _-_, _*_, _≤_, _<_}
+use native.Mathlib.Nat.{le-refl}
 use native.Mathlib.Omega.{arith}
-use lib.ListN.{length}
+use lib.ListN.{length, take, drop, drop-of-length-le}
+use lib.Seq.{take-all, length-take-le}
 use borrow.Author.Tests.{le-leb, lt-leb, eq-eqb, ne-eqb}
 use Rattle.gap.specs.Rules.Sequence.{every, sameBytes, begins, part, patch, zeros}
 use Rattle.gap.specs.Rules.Strings.{bytes}
@@ -17,8 +19,8 @@ use Rattle.editor.specs.Rules.Bytes.{quarter}
 use Rattle.window.specs.declared.Answer.{Answer}
 use Rattle.window.specs.Rules.Core.{Lent, rowsAndColumns}
 use Rattle.bench.specs.Words.{Right, Move, LineEnding, Number, Read, Unreadable, Header, Heading, Headed, Broken}
-use Rattle.bench.specs.Words.{Named, Unnamed, Entry}
-use Rattle.bench.specs.Rules.Names.{nameOf, combinations, functionOf, entryOf, functionNamed, indentNamed, markNamed, keyNamed}
+use Rattle.bench.specs.Words.{Insert, Named, Unnamed, Entry}
+use Rattle.bench.specs.Rules.Names.{nameOf, combinations, functionOf, entryOf, functionNamed, insertNumbered, indentNamed, markNamed, keyNamed}
 use Rattle.bench.specs.Rules.Script.{whenRead, textThere, headingOf}
 use Rattle.bench.specs.Rules.Print.{rowsOf, acceptedBlock, refusedBlock, block, scriptLine}
 use Rattle.bench.specs.Rules.Run.{unlessLarge, beginning, laidOut, fresh, printedFrom, output}
@@ -39,9 +41,16 @@ pub combinations-pinned : (map functionOf combinations ≡ map (λ n. n .key) fu
 unfolding bytes combinations
 combinations-pinned = (refl, refl)
 
--- A row of that table: the host's numbers, 19 letters, and zeros behind them. The numbers of every row.
+-- A row of that table: the host's numbers, 19 letters, and zeros behind them. Of every row its numbers, how long its name is, and its
+-- name filled up to 24 letters.
 abbrev numbers : Entry → ℕ × ℕ × ℕ
 numbers e = (e .action, e .direction, e .place)
+
+abbrev letters : Entry → ℕ × List ℕ
+letters e = (e .length, e .name)
+
+abbrev filled : List ℕ → ℕ × List ℕ
+filled name = (length name, name ++ zeros (24 - length name))
 
 abbrev fives : ℕ → ℕ → List (ℕ × ℕ × ℕ)
 fives action way = (action, way, 0) ∷ (action, way, 1) ∷ (action, way, 2) ∷ (action, way, 3) ∷ (action, way, 4) ∷ []
@@ -49,8 +58,13 @@ fives action way = (action, way, 0) ∷ (action, way, 1) ∷ (action, way, 2) �
 pub entry-pinned : (entryOf (record { action = Move; direction = Right; place = LineEnding })
     ≡ record { action = 0; direction = 1; place = 3; length = 19; name = bytes "move-right-line-end" ++ (0 ∷ 0 ∷ 0 ∷ 0 ∷ 0 ∷ []) })
     × (map (λ c. numbers (entryOf c)) combinations ≡ fives 0 0 ++ (fives 0 1 ++ (fives 1 0 ++ fives 1 1)))
+    × (map (λ c. letters (entryOf c)) combinations ≡ map (λ n. filled (bytes (n .name))) functionNames)
 unfolding zeros bytes combinations
-entry-pinned = (refl, refl)
+entry-pinned = (refl, refl, refl)
+
+-- An insert's number is at most 255.
+pub insert-limit : (n : ℕ) → (n ≤ 255 → insertNumbered (Read n) ≡ Named (Insert n)) × (255 < n → insertNumbered (Read n) ≡ Unnamed)
+insert-limit n = (λ small. rw (le-leb n 255 small), λ large. rw (lt-leb n 255 large))
 
 -- 01, the bench program: blocks.
 pub blocks-pinned : broken itself blockPins ≡ []
@@ -125,9 +139,22 @@ pub text-laid-out : (laid 4 2 ≡ 97 ∷ 98 ∷ 0 ∷ 0 ∷ []) × (laid 2 4 ≡
 unfolding part patch zeros bytes fresh
 text-laid-out = (refl, refl)
 
+-- So it is with any text, and any store: what does not get a byte stays.
+pub text-laid : (h : Header) (input : List ℕ) (b : Lent)
+    → let raw = part (h .at) (h .length) input in let store = b .stores .text in let laid = laidOut h input b .stores .text in
+    (length raw ≤ length store → laid ≡ raw ++ drop (length raw) store) × (length store ≤ length raw → laid ≡ take (length store) raw)
+unfolding patch
+text-laid h input b =
+    let raw = part (h .at) (h .length) input in
+    let store = b .stores .text in (
+      λ fits. rw (take-all (length store) raw fits),
+      λ full. rw (length-take-le (length store) raw full, drop-of-length-le store (le-refl (length store)), append-nil),
+    )
+
 -- All else that is lent is left as it was.
 pub text-alone : (h : Header) (input : List ℕ) (b : Lent)
     → (laidOut h input b .stores .recall ≡ b .stores .recall)
+    × (laidOut h input b .stores .held ≡ b .stores .held)
     × (laidOut h input b .stores .side ≡ b .stores .side)
     × (laidOut h input b .screen ≡ b .screen)
-text-alone h input b = (refl, refl, refl)
+text-alone h input b = (refl, refl, refl, refl)

@@ -8,15 +8,15 @@ use Prim.Native.Nat.{ℕ, zero, suc, _+_, _-_, _≤_, _<_}
 use native.Mathlib.Nat.{zero-add, suc-add}
 use native.Mathlib.Omega.{arith}
 use lib.ListN.{length}
-use borrow.Author.Tests.{ne-eqb}
+use borrow.Author.Tests.{eq-eqb, ne-eqb}
 use Rattle.bench.specs.Words.{Key, Header, Headed, Reading, Pressed, Finished, Unknown}
 use Rattle.bench.specs.Rules.Script.{headingOf, readingAt}
-use Rattle.bench.specs.Rules.Print.{scriptLine}
+use Rattle.bench.specs.Rules.Print.{block, scriptLine}
 use Rattle.gap.specs.Rules.Fields.{lineNumber}
-use Rattle.gap.proofs.Laws.Tests.{decided}
+use Rattle.gap.proofs.Laws.Tests.{decided, cond-true}
 use Rattle.gap.proofs.Laws.Writers.{one-written}
 use Rattle.window.specs.declared.Session.{Session}
-use Rattle.window.specs.Rules.Core.{Lent, opened}
+use Rattle.window.specs.Rules.Core.{Lent, Called, opened, keyed}
 use Rattle.bench.specs.declared.Turn.{Turn}
 use Rattle.bench.specs.Wording.Turns.{stateOf, Does}
 use Rattle.bench.specs.Rules.Run.{beginning, State, Turned, laidOut, openingTurn, pressedTurn, read, nextTurn, turns, fresh, printedFrom, output}
@@ -83,7 +83,7 @@ pub all-printed : (k : ℕ) (input : List ℕ) (h : Header) → beginning input 
 unfolding output
 all-printed k input h e = ap (printedFrom input) e ∙ sym (all-turns k input h (fresh h) (begun-as input h (sym e) .0))
 
--- 01, the bench program: a refused opening ends the program, whatever refuses it, and a refused key does not.
+-- 01, the bench program: a refused opening ends the program, whatever refuses it, and an accepted one or a refused key does not.
 pub refused-opening-ends : (n : ℕ) (h : Header) (input : List ℕ) (b : Lent)
     → 0 < opened (h .length) (h .rows) (h .columns) (laidOut h input b) .answer .code
     → turns n input (openingTurn h input b) ≡ openingTurn h input b .printed
@@ -92,9 +92,32 @@ refused-opening-ends n h input b refused =
     none-more n input (openingTurn h input b)
     (ne-eqb (opened (h .length) (h .rows) (h .columns) (laidOut h input b) .answer .code) 0 (λ e. omega (arith, e, refused)))
 
+pub accepted-opening-goes-on : (h : Header) (input : List ℕ) (b : Lent)
+    → opened (h .length) (h .rows) (h .columns) (laidOut h input b) .answer .code ≡ 0
+    → openingTurn h input b .state .going ≡ true
+unfolding openingTurn
+accepted-opening-goes-on h input b accepted = eq-eqb (opened (h .length) (h .rows) (h .columns) (laidOut h input b) .answer .code) 0 accepted
+
 pub key-goes-on : (s : Session) (k : Key) (next : ℕ) (b : Lent) → pressedTurn s k next b .state .going ≡ true
 unfolding pressedTurn
 key-goes-on s k next b = refl
+
+-- Either turn prints the block of its call's answer, with the screen that the call left, and hands on the record and the stores.
+abbrev Hands : Turned → Called → ℕ → ℕ → ℕ → Type 0
+Hands t o H W next =
+    (t .printed ≡ block H W (o .answer) (o .lent .screen))
+    × (t .state .at ≡ next)
+    × (t .state .session ≡ o .session)
+    × (t .state .lent ≡ o .lent)
+
+pub opening-hands : (h : Header) (input : List ℕ) (b : Lent)
+    → Hands (openingTurn h input b) (opened (h .length) (h .rows) (h .columns) (laidOut h input b)) (h .rows) (h .columns) (h .at + h .length + 1)
+unfolding openingTurn
+opening-hands h input b = (refl, omega arith, refl, refl)
+
+pub key-hands : (s : Session) (k : Key) (next : ℕ) (b : Lent) → Hands (pressedTurn s k next b) (keyed s k b) (s .frame .h) (s .frame .w) next
+unfolding pressedTurn
+key-hands s k next b = (refl, refl, refl, refl)
 
 -- It ends at the end of the input, where it prints nothing, and at a line that cannot be read, whose number it prints. All else is left as it
 -- was.
@@ -106,6 +129,15 @@ pub last-turn : (input : List ℕ) (s : State)
     × (readingAt input (s .at) ≡ Unknown → nextTurn input s ≡ record { printed = scriptLine (lineNumber input (s .at)); state = ended s })
 unfolding nextTurn
 last-turn input s = (ap (read input s), ap (read input s))
+
+-- Else its key is pressed on what the turn before handed on, and its turn is printed behind that one's.
+pub each-turn : (n : ℕ) (input : List ℕ) (t : Turned) (k : Key) (next : ℕ)
+    → t .state .going ≡ true
+    → readingAt input (t .state .at) ≡ Pressed k next
+    → turns (suc n) input t ≡ t .printed ++ turns n input (pressedTurn (t .state .session) k next (t .state .lent))
+unfolding nextTurn turns
+each-turn n input t k next going e =
+    ap (λ rest. t .printed ++ rest) (cond-true _ _ going ∙ ap (λ r. turns n input (read input (t .state) r)) e)
 
 -- Two turns of the code that do the same turn of the definitions are the same: what is left, the stores, and what is printed.
 pub one-turn : {turned : Turned} {t u : Turn} {b c : Lent} {old new other : List ℕ} → Does turned t b old new → Does turned u c old other
