@@ -1,17 +1,17 @@
 -- What bytes received so far give, step by step: bytes that wait for more, and the byte behind them that decides.
 use mathlib.Core.Path.{_≡_, refl, sym, ap, subst, _∙_}
 use mathlib.Core.Logic.{_⊎_, inl, inr, _≢_, ⊎-elim}
-use mathlib.Core.Bool.{Bool, true, false, false≢true}
+use mathlib.Core.Bool.{Bool, true, false, _||_, false≢true}
 use mathlib.Core.List.{List, [], _∷_, _++_, append-assoc, append-nil}
 use Prim.Native.Nat.{ℕ, suc, _+_, _≤_}
 use native.Mathlib.Omega.{arith}
 use lib.Dec.{eqb, leb}
 use lib.ListN.{length, length-append}
-use borrow.Author.Tests.{eqb-true, eq-eqb, ne-eqb, leb-true}
+use borrow.Author.Tests.{eqb-true, ne-eqb, leb-true}
 use Rattle.gap.specs.Rules.Sequence.{sameBytes}
 use Rattle.gap.specs.Rules.Strings.{bytes}
-use Rattle.gap.specs.Rules.Layout.{printable}
-use Rattle.gap.proofs.Laws.Tests.{decided, clash, and-left, and-right, cond-true, cond-false}
+use Rattle.gap.specs.Rules.Layout.{printable, allowed}
+use Rattle.gap.proofs.Laws.Tests.{decided, clash, and-left, and-right, or-cases, cond-true, cond-false}
 use Rattle.gap.proofs.Laws.Sequence.{same-equal}
 use Rattle.keyboard.specs.Words.{Left, Right, Move, Delete, Character, Word, LineBeginning, LineEnding, Document}
 use Rattle.keyboard.specs.Words.{Key, Insert, Function, Recall, Quote, Find, Replace, Mark, Cut, Paste, Newline, Tab}
@@ -19,8 +19,16 @@ use Rattle.keyboard.specs.Words.{Received, Pressed, More, Refused}
 use Rattle.keyboard.specs.Rules.Refusals.{SEQUENCE}
 use Rattle.keyboard.specs.Rules.Keyboard.{escape, bracket, bytesOf, arrowKeys, letterKeys, keyAmong, insertOf, usedOf}
 use Rattle.keyboard.specs.Rules.Keyboard.{byteReceived, letterReceived, arrowReceived, received}
-use Rattle.keyboard.specs.Wording.Begun.{Begun}
+use Rattle.keyboard.specs.Wording.Begun.{ofTerminal, Begun}
 use Rattle.keyboard.proofs.Laws.Table.{byte-printed}
+
+or-not-left : (a b : Bool) → (a || b) ≡ false → a ≡ false
+or-not-left true b e = e
+or-not-left false b e = refl
+
+or-not-right : (a b : Bool) → (a || b) ≡ false → b ≡ false
+or-not-right true b e = absurd (false≢true (sym e))
+or-not-right false b e = e
 
 -- ---- Answers apart
 
@@ -165,56 +173,97 @@ module _ (s : List ℕ) (w : Decided s) where
 
 -- ---- A key's own bytes
 
-insert-back : (b : ℕ) (rest : List ℕ) → bytesOf (Insert b) ≢ [] → received (bytesOf (Insert b) ++ rest) ≡ Pressed (Insert b) (length (bytesOf (Insert b)))
-unfolding bytesOf received byteReceived keyAmong sameBytes
-insert-back b rest sent =
-    ⊎-elim
-    (λ ten. subst (λ x. received (bytesOf (Insert x) ++ rest) ≡ Pressed (Insert x) (length (bytesOf (Insert x)))) (sym (eqb-true b 10 ten)) refl)
-    (λ other. ⊎-elim (λ inside. shown other inside) (λ outside. absurd (sent (cond-false _ _ other ∙ cond-false _ _ outside))) (decided (printable b)))
-    (decided (eqb b 10))
-  where
-    shown : eqb b 10 ≡ false → printable b ≡ true → received (bytesOf (Insert b) ++ rest) ≡ Pressed (Insert b) (length (bytesOf (Insert b)))
-    shown other inside =
-        let low = leb-true 32 b (and-left (leb 32 b) (leb b 126) inside) in
-        let high = leb-true b 126 (and-right (leb 32 b) (leb b 126) inside) in
-        let one : bytesOf (Insert b) ≡ b ∷ [] = cond-false _ _ other ∙ cond-true _ _ inside in
-        subst (λ x. received (x ++ rest) ≡ Pressed (Insert b) (length x)) (sym one)
-        (cond-false _ _ (ne-eqb b escape (λ e. omega (arith, e, low))) ∙ byte-printed b (λ e. omega (arith, e, low)) low high)
+module _ (b : ℕ) where
+  -- An insert that terminals send is of 10, or of a byte that is printed.
+  inserts : {A : Type 0} → allowed b ≡ true → (b ≡ 10 → A) → (eqb b 10 ≡ false → printable b ≡ true → A) → A
+  inserts inside ten printed =
+      ⊎-elim
+      (λ same. ten (eqb-true b 10 same))
+      (λ differs. printed differs (⊎-elim (λ same. clash same differs) (λ p. p) (or-cases (eqb b 10) (printable b) inside)))
+      (decided (eqb b 10))
+
+  -- Its bytes give it.
+  abbrev Back : List ℕ → ℕ → Type 0
+  Back rest x = received (bytesOf (Insert x) ++ rest) ≡ Pressed (Insert x) (length (bytesOf (Insert x)))
+
+  ten-back : (rest : List ℕ) → Back rest 10
+  unfolding bytesOf received byteReceived keyAmong sameBytes
+  ten-back rest = refl
+
+  printed-back : (rest : List ℕ) → eqb b 10 ≡ false → printable b ≡ true → Back rest b
+  unfolding bytesOf received
+  printed-back rest differs printed =
+      let low = leb-true 32 b (and-left (leb 32 b) (leb b 126) printed) in
+      let high = leb-true b 126 (and-right (leb 32 b) (leb b 126) printed) in
+      let one : bytesOf (Insert b) ≡ b ∷ [] = cond-false _ _ differs ∙ cond-true _ _ printed in
+      subst (λ x. received (x ++ rest) ≡ Pressed (Insert b) (length x)) (sym one)
+      (cond-false _ _ (ne-eqb b escape (λ e. omega (arith, e, low))) ∙ byte-printed b (λ e. omega (arith, e, low)) low high)
+
+  insert-back : (rest : List ℕ) → allowed b ≡ true → Back rest b
+  insert-back rest inside = inserts inside (λ e. subst (Back rest) (sym e) (ten-back rest)) (printed-back rest)
+
+  insert-sent : bytesOf (Insert b) ≢ [] → allowed b ≡ true
+  unfolding bytesOf
+  insert-sent sent =
+      let none : allowed b ≡ false → allowed b ≡ true = λ outside.
+      absurd (sent (cond-false _ _ (or-not-left (eqb b 10) (printable b) outside) ∙ cond-false _ _ (or-not-right (eqb b 10) (printable b) outside))) in
+      ⊎-elim (λ inside. inside) none (decided (allowed b))
 
 -- Bytes that begin with those of a key give it, and it uses these: the whole table, row by row.
+row : (k : Key) (rest : List ℕ) → ofTerminal k ≡ true → received (bytesOf k ++ rest) ≡ Pressed k (length (bytesOf k))
+unfolding bytesOf bytes received letterReceived arrowReceived byteReceived keyAmong sameBytes
+row (Insert b) rest inside = insert-back b rest inside
+row (Function Move Left Character) rest inside = refl
+row (Function Move Left Word) rest inside = refl
+row (Function Move Left LineBeginning) rest inside = refl
+row (Function Move Left LineEnding) rest inside = refl
+row (Function Move Left Document) rest inside = refl
+row (Function Move Right Character) rest inside = refl
+row (Function Move Right Word) rest inside = refl
+row (Function Move Right LineBeginning) rest inside = refl
+row (Function Move Right LineEnding) rest inside = refl
+row (Function Move Right Document) rest inside = refl
+row (Function Delete Left Character) rest inside = refl
+row (Function Delete Left Word) rest inside = refl
+row (Function Delete Left LineBeginning) rest inside = refl
+row (Function Delete Left LineEnding) rest inside = refl
+row (Function Delete Left Document) rest inside = refl
+row (Function Delete Right Character) rest inside = refl
+row (Function Delete Right Word) rest inside = refl
+row (Function Delete Right LineBeginning) rest inside = refl
+row (Function Delete Right LineEnding) rest inside = refl
+row (Function Delete Right Document) rest inside = refl
+row Recall rest inside = refl
+row Quote rest inside = refl
+row (Find Left) rest inside = refl
+row (Find Right) rest inside = refl
+row Replace rest inside = refl
+row Mark rest inside = refl
+row Cut rest inside = refl
+row Paste rest inside = refl
+row Newline rest inside = refl
+row Tab rest inside = refl
+
+-- The keys that terminals send are those that have bytes.
+pub has-bytes : (k : Key) → ofTerminal k ≡ true → bytesOf k ≢ []
+unfolding received
+has-bytes k inside none = pressed-more (sym (row k [] inside) ∙ ap (λ s. received (s ++ [])) none)
+
+pub of-terminal : (k : Key) → bytesOf k ≢ [] → ofTerminal k ≡ true
+of-terminal (Insert b) sent = insert-sent b sent
+of-terminal (Function action way place) sent = refl
+of-terminal Recall sent = refl
+of-terminal Quote sent = refl
+of-terminal (Find way) sent = refl
+of-terminal Replace sent = refl
+of-terminal Mark sent = refl
+of-terminal Cut sent = refl
+of-terminal Paste sent = refl
+of-terminal Newline sent = refl
+of-terminal Tab sent = refl
+
 pub read-back : (k : Key) (rest : List ℕ) → bytesOf k ≢ [] → received (bytesOf k ++ rest) ≡ Pressed k (length (bytesOf k))
-unfolding bytesOf bytes received byteReceived letterReceived arrowReceived keyAmong sameBytes
-read-back (Insert b) rest sent = insert-back b rest sent
-read-back (Function Move Left Character) rest sent = refl
-read-back (Function Move Left Word) rest sent = refl
-read-back (Function Move Left LineBeginning) rest sent = refl
-read-back (Function Move Left LineEnding) rest sent = refl
-read-back (Function Move Left Document) rest sent = refl
-read-back (Function Move Right Character) rest sent = refl
-read-back (Function Move Right Word) rest sent = refl
-read-back (Function Move Right LineBeginning) rest sent = refl
-read-back (Function Move Right LineEnding) rest sent = refl
-read-back (Function Move Right Document) rest sent = refl
-read-back (Function Delete Left Character) rest sent = refl
-read-back (Function Delete Left Word) rest sent = refl
-read-back (Function Delete Left LineBeginning) rest sent = refl
-read-back (Function Delete Left LineEnding) rest sent = refl
-read-back (Function Delete Left Document) rest sent = refl
-read-back (Function Delete Right Character) rest sent = refl
-read-back (Function Delete Right Word) rest sent = refl
-read-back (Function Delete Right LineBeginning) rest sent = refl
-read-back (Function Delete Right LineEnding) rest sent = refl
-read-back (Function Delete Right Document) rest sent = refl
-read-back Recall rest sent = refl
-read-back Quote rest sent = refl
-read-back (Find Left) rest sent = refl
-read-back (Find Right) rest sent = refl
-read-back Replace rest sent = refl
-read-back Mark rest sent = refl
-read-back Cut rest sent = refl
-read-back Paste rest sent = refl
-read-back Newline rest sent = refl
-read-back Tab rest sent = refl
+read-back k rest sent = row k rest (of-terminal k sent)
 
 pub read-alone : (k : Key) → bytesOf k ≢ [] → received (bytesOf k) ≡ Pressed k (length (bytesOf k))
 read-alone k sent = ap received (sym (append-nil (bytesOf k))) ∙ read-back k [] sent

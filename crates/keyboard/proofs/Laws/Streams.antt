@@ -9,8 +9,8 @@ use lib.Seq.{drop-append-le}
 use Rattle.keyboard.specs.Words.{Received, Pressed, More, Refused}
 use Rattle.keyboard.specs.Rules.Keyboard.{received, usedOf}
 use Rattle.keyboard.specs.Rules.Streams.{Item, aKey, aRefusal, Reading, waits, behind, then, turns, reading, readingOn, joined}
-use Rattle.keyboard.proofs.Laws.Answers.{pressed-more, refused-more, looked, waits-more, waits-short}
-use Rattle.keyboard.proofs.Laws.Answers.{Decided, decided-used, decided-within, decided-longer, decided-more}
+use Rattle.keyboard.proofs.Laws.Answers.{pressed-more, refused-more, looked, waits-more}
+use Rattle.keyboard.proofs.Laws.Answers.{decided-used, decided-within, decided-longer}
 
 -- What is not "more" uses a byte at least, and those that are there.
 pub some-used : (s : List ℕ) → received s ≢ More → 1 ≤ usedOf (received s)

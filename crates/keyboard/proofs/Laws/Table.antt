@@ -1,20 +1,20 @@
 -- Which key the table gives for bytes: what the tests of the code tell.
 use mathlib.Core.Path.{_≡_, refl, sym, ap, _∙_}
-use mathlib.Core.Logic.{_≢_, ⊎-elim}
+use mathlib.Core.Logic.{⊎-elim}
 use mathlib.Core.Bool.{true, false, _&&_, and-false}
 use mathlib.Core.List.{List, [], _∷_, _++_}
-use Prim.Native.Nat.{ℕ, suc, _≤_, _<_}
+use Prim.Native.Nat.{ℕ, _≤_, _<_}
 use native.Mathlib.Omega.{arith}
 use lib.Dec.{eqb, leb}
 use lib.ListN.{length, getD}
 use borrow.Author.Tests.{eqb-true, eq-eqb, ne-eqb, le-leb, lt-leb}
 use Rattle.gap.specs.Rules.Sequence.{sameBytes}
 use Rattle.gap.specs.Rules.Layout.{printable}
-use Rattle.gap.proofs.Laws.Tests.{decided, and-both, cond-true, cond-false}
-use Rattle.gap.proofs.Laws.Sequence.{same-refl, same-equal}
-use Rattle.keyboard.specs.Words.{Left, Delete, Character, Key, Insert, Function, Received, Pressed, More, Refused}
+use Rattle.gap.proofs.Laws.Tests.{decided, cond-true, cond-false}
+use Rattle.gap.proofs.Laws.Sequence.{same-equal}
+use Rattle.keyboard.specs.Words.{Key, Insert, Pressed, More, Refused}
 use Rattle.keyboard.specs.Rules.Refusals.{SEQUENCE}
-use Rattle.keyboard.specs.Rules.Keyboard.{escape, bracket, bytesOf, keyAmong, insertOf, byteReceived, letterReceived, arrowReceived, received}
+use Rattle.keyboard.specs.Rules.Keyboard.{escape, bracket, bytesOf, keyAmong, byteReceived, letterReceived, arrowReceived, received}
 
 -- ---- Lists of keys
 

@@ -1,16 +1,16 @@
 -- A stream has one reading, however its bytes arrive. (02, M-107.)
 use mathlib.Core.Path.{_≡_, refl, sym, ap, _∙_}
 use mathlib.Core.Logic.{_≢_}
-use mathlib.Core.List.{List, [], _∷_, _++_, map, append-nil}
+use mathlib.Core.List.{List, [], _∷_, _++_, map}
 use Prim.Native.Nat.{ℕ, _≤_}
-use lib.ListN.{length, drop}
+use lib.ListN.{length}
 use lib.Seq.{drop-at}
-use Rattle.keyboard.specs.Words.{Key, Pressed, More}
+use Rattle.keyboard.specs.Words.{Key, More}
 use Rattle.keyboard.specs.Rules.Keyboard.{bytesOf, received}
-use Rattle.keyboard.specs.Rules.Streams.{aKey, Reading, waits, behind, then, turns, reading, readingOn, readingPieces, joined}
+use Rattle.keyboard.specs.Rules.Streams.{aKey, behind, then, turns, reading, readingPieces, joined}
 use Rattle.keyboard.proofs.Laws.Answers.{read-back}
 use Rattle.keyboard.proofs.Laws.Streams.{reading-on, waiting-more, pieces-on}
-use Rattle.keyboard.proofs.Theorems.Readings.{ofTerminal, has-bytes, more-short}
+use Rattle.keyboard.proofs.Theorems.Readings.{more-short}
 
 -- Keys, refusals and the bytes that wait are a function of the bytes alone: pieces read as the stream that they make.
 pub one-reading : (pieces : List (List ℕ)) → readingPieces pieces ≡ reading (joined pieces)

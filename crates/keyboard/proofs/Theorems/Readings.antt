@@ -1,86 +1,29 @@
 -- What bytes received so far give is what the table of the keys' bytes says. (02, M-107.)
 use mathlib.Core.Path.{_≡_, refl, sym, ap, subst, _∙_}
 use mathlib.Core.Logic.{_≢_, _↔_, ⊎-elim}
-use mathlib.Core.Bool.{Bool, true, false, _||_, false≢true}
+use mathlib.Core.Bool.{true, false}
 use mathlib.Core.List.{List, [], _∷_, _++_, append-assoc, append-nil}
 use Prim.Native.Nat.{ℕ, suc, _+_, _≤_}
 use native.Mathlib.Omega.{arith}
-use lib.Dec.{eqb, leb}
 use lib.ListN.{length, length-append}
 use borrow.Author.Tests.{ne-eqb}
-use Rattle.gap.specs.Rules.Strings.{bytes}
-use Rattle.gap.specs.Rules.Layout.{printable, allowed}
-use Rattle.gap.proofs.Laws.Tests.{decided, or-left, or-right, or-cases, cond-true, cond-false}
-use Rattle.keyboard.specs.Words.{Left, Right, Move, Delete, Character, Word, LineBeginning, LineEnding, Document}
-use Rattle.keyboard.specs.Words.{Key, Insert, Function, Recall, Quote, Find, Replace, Mark, Cut, Paste, Newline, Tab}
-use Rattle.keyboard.specs.Words.{Received, Pressed, More, Refused}
+use Rattle.gap.specs.Rules.Layout.{printable}
+use Rattle.gap.proofs.Laws.Tests.{cond-false}
+use Rattle.keyboard.specs.Words.{Key, Received, Pressed, More, Refused}
 use Rattle.keyboard.specs.Rules.Refusals.{SEQUENCE}
-use Rattle.keyboard.specs.Rules.Keyboard.{escape, bracket, bytesOf, keyAmong, byteReceived, received, usedOf}
-use Rattle.keyboard.specs.Wording.Begun.{Whole, Begun, Unbegun, Broken, Gives}
+use Rattle.keyboard.specs.Rules.Keyboard.{escape, bytesOf, keyAmong, received, usedOf}
+use Rattle.keyboard.specs.Wording.Begun.{ofTerminal, Begun, Unbegun, Broken, Gives}
 use Rattle.keyboard.proofs.Laws.Table.{byte-stray}
 use Rattle.keyboard.proofs.Laws.Answers.{pressed-refused, no-end, length-end, Found, among, Waits, waits-more, waits-short, waits-begun}
 use Rattle.keyboard.proofs.Laws.Answers.{Decides, next-byte, Decided, looked, decided-answer, decided-longer, decided-within, decided-more}
-use Rattle.keyboard.proofs.Laws.Answers.{read-back, read-alone}
+use Rattle.keyboard.proofs.Laws.Answers.{has-bytes, of-terminal, read-back, read-alone}
 use Rattle.keyboard.proofs.Laws.Streams as streams
 
 -- ---- The keys
 
--- Keys that a terminal sends: all but an insert of a byte that no text may have.
-abbrev pub ofTerminal : Key → Bool
-ofTerminal (Insert b) = allowed b
-ofTerminal (Function action way place) = true
-ofTerminal Recall = true
-ofTerminal Quote = true
-ofTerminal (Find way) = true
-ofTerminal Replace = true
-ofTerminal Mark = true
-ofTerminal Cut = true
-ofTerminal Paste = true
-ofTerminal Newline = true
-ofTerminal Tab = true
-
-length-apart : {s t : List ℕ} → (length s ≡ length t → ⊥) → s ≢ t
-length-apart apart e = apart (ap length e)
-
--- Every key that the editor has, but such an insert, has its bytes.
-pub has-bytes : (k : Key) → ofTerminal k ≡ true → bytesOf k ≢ []
-unfolding bytesOf bytes
-has-bytes (Insert b) inside =
-    let ten : eqb b 10 ≡ true → bytesOf (Insert b) ≢ [] = λ same. length-apart (λ e. omega (arith, sym (ap length (cond-true _ _ same)) ∙ e)) in
-    let other : eqb b 10 ≡ false → bytesOf (Insert b) ≢ [] = λ differs.
-    let shown : printable b ≡ true = ⊎-elim (λ same. absurd (false≢true (sym differs ∙ same))) (λ p. p) (or-cases (eqb b 10) (printable b) inside) in
-    length-apart (λ e. omega (arith, sym (ap length (cond-false _ _ differs ∙ cond-true _ _ shown)) ∙ e)) in
-    ⊎-elim ten other (decided (eqb b 10))
-has-bytes (Function Move Left Character) inside = length-apart (λ e. omega (arith, e))
-has-bytes (Function Move Left Word) inside = length-apart (λ e. omega (arith, e))
-has-bytes (Function Move Left LineBeginning) inside = length-apart (λ e. omega (arith, e))
-has-bytes (Function Move Left LineEnding) inside = length-apart (λ e. omega (arith, e))
-has-bytes (Function Move Left Document) inside = length-apart (λ e. omega (arith, e))
-has-bytes (Function Move Right Character) inside = length-apart (λ e. omega (arith, e))
-has-bytes (Function Move Right Word) inside = length-apart (λ e. omega (arith, e))
-has-bytes (Function Move Right LineBeginning) inside = length-apart (λ e. omega (arith, e))
-has-bytes (Function Move Right LineEnding) inside = length-apart (λ e. omega (arith, e))
-has-bytes (Function Move Right Document) inside = length-apart (λ e. omega (arith, e))
-has-bytes (Function Delete Left Character) inside = length-apart (λ e. omega (arith, e))
-has-bytes (Function Delete Left Word) inside = length-apart (λ e. omega (arith, e))
-has-bytes (Function Delete Left LineBeginning) inside = length-apart (λ e. omega (arith, e))
-has-bytes (Function Delete Left LineEnding) inside = length-apart (λ e. omega (arith, e))
-has-bytes (Function Delete Left Document) inside = length-apart (λ e. omega (arith, e))
-has-bytes (Function Delete Right Character) inside = length-apart (λ e. omega (arith, e))
-has-bytes (Function Delete Right Word) inside = length-apart (λ e. omega (arith, e))
-has-bytes (Function Delete Right LineBeginning) inside = length-apart (λ e. omega (arith, e))
-has-bytes (Function Delete Right LineEnding) inside = length-apart (λ e. omega (arith, e))
-has-bytes (Function Delete Right Document) inside = length-apart (λ e. omega (arith, e))
-has-bytes Recall inside = length-apart (λ e. omega (arith, e))
-has-bytes Quote inside = length-apart (λ e. omega (arith, e))
-has-bytes (Find Left) inside = length-apart (λ e. omega (arith, e))
-has-bytes (Find Right) inside = length-apart (λ e. omega (arith, e))
-has-bytes Replace inside = length-apart (λ e. omega (arith, e))
-has-bytes Mark inside = length-apart (λ e. omega (arith, e))
-has-bytes Cut inside = length-apart (λ e. omega (arith, e))
-has-bytes Paste inside = length-apart (λ e. omega (arith, e))
-has-bytes Newline inside = length-apart (λ e. omega (arith, e))
-has-bytes Tab inside = length-apart (λ e. omega (arith, e))
+-- Every key that the editor has, but an insert of a byte that no text may have, has its bytes, and no other has.
+pub sent-exactly : (k : Key) → (ofTerminal k ≡ true) ↔ (bytesOf k ≢ [])
+sent-exactly k = (has-bytes k, of-terminal k)
 
 -- They read back as that key with all of them used, whatever follows.
 pub reads-back : (k : Key) (rest : List ℕ) → ofTerminal k ≡ true → received (bytesOf k ++ rest) ≡ Pressed k (length (bytesOf k))
@@ -96,10 +39,11 @@ no-rest (b ∷ rest) none = absurd (omega (arith, none))
 -- No key's bytes begin another's: where they do, it is the same key, and nothing follows.
 pub none-begins : (j k : Key) (rest : List ℕ) → bytesOf j ≢ [] → bytesOf k ≡ bytesOf j ++ rest → (j ≡ k) × (rest ≡ [])
 none-begins j k rest sent split =
-    let sent-too : bytesOf k ≢ [] = λ none. sent (no-rest (bytesOf j) (omega (arith, sym (length-append (bytesOf j) rest) ∙ ap length (sym split ∙ none)))) in
+    let long : length (bytesOf k) ≡ length (bytesOf j) + length rest = ap length split ∙ length-append (bytesOf j) rest in
+    let sent-too : bytesOf k ≢ [] = λ none. sent (no-rest (bytesOf j) (omega (arith, long, ap length none))) in
     let alike : Pressed j (length (bytesOf j)) ≡ Pressed k (length (bytesOf k)) =
     sym (read-back j rest sent) ∙ ap received (sym split) ∙ read-alone k sent-too in
-    (same-key alike, no-rest rest (omega (arith, ap usedOf alike, ap length split ∙ length-append (bytesOf j) rest)))
+    (same-key alike, no-rest rest (omega (arith, ap usedOf alike, long)))
 
 -- ---- The three answers
 

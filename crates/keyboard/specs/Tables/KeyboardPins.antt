@@ -1,7 +1,6 @@
 -- What request M-107 says, each sentence with its examples, and the letters of docs/KEYBOARD.md.
 use Prim.Native.String.{String}
 use Rattle.gap.specs.Rules.Sequence.{counted}
-use Rattle.gap.specs.Rules.Strings.{bytes}
 use Rattle.gap.specs.Tables.Sentence.{Sentence, sentence}
 use Rattle.keyboard.specs.Words.{List, [], _∷_, _++_, map, ℕ, Left, Right, Move, Delete, Received, Pressed, More, Refused}
 use Rattle.keyboard.specs.Words.{Character, Word, LineBeginning, LineEnding, Document}

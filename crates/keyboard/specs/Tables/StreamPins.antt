@@ -1,6 +1,6 @@
 -- Streams and their readings, whole and in pieces. (02, M-107.)
-use Rattle.keyboard.specs.Words.{List, [], _∷_, map, ℕ, Right, Move, Character, Insert, Function, Quote}
-use Rattle.keyboard.specs.Rules.Streams.{Item, aKey, aRefusal, Reading, reading, readingPieces}
+use Rattle.keyboard.specs.Words.{List, [], _∷_, ℕ, Right, Move, Character, Insert, Function, Quote}
+use Rattle.keyboard.specs.Rules.Streams.{Item, aKey, aRefusal, Reading}
 
 -- Pieces, and what they are read as.
 pub record Stream : Type 0 where

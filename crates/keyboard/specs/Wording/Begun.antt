@@ -1,9 +1,25 @@
 -- The words in which theorems say what bytes received so far must give, from the table of the keys' bytes alone. (02, M-107.)
 use mathlib.Core.Path.{_≡_}
 use mathlib.Core.Logic.{_≢_}
-use Rattle.keyboard.specs.Words.{List, [], _∷_, _++_, ℕ, suc, length, Key, Received, Pressed, More, Refused}
+use Rattle.gap.specs.Rules.Layout.{allowed}
+use Rattle.keyboard.specs.Words.{List, [], _∷_, _++_, Bool, true, ℕ, suc, length, Received, Pressed, More, Refused}
+use Rattle.keyboard.specs.Words.{Key, Insert, Function, Recall, Quote, Find, Replace, Mark, Cut, Paste, Newline, Tab}
 use Rattle.keyboard.specs.Rules.Refusals.{SEQUENCE}
 use Rattle.keyboard.specs.Rules.Keyboard.{bytesOf}
+
+-- Keys that a terminal sends: all but an insert of a byte that no text may have.
+abbrev pub ofTerminal : Key → Bool
+ofTerminal (Insert b) = allowed b
+ofTerminal (Function action way place) = true
+ofTerminal Recall = true
+ofTerminal Quote = true
+ofTerminal (Find way) = true
+ofTerminal Replace = true
+ofTerminal Mark = true
+ofTerminal Cut = true
+ofTerminal Paste = true
+ofTerminal Newline = true
+ofTerminal Tab = true
 
 -- The bytes begin with those of a key that terminals send, and it uses these.
 pub record Whole (s : List ℕ) (key : Key) (used : ℕ) : Type 0 where

@@ -113,4 +113,6 @@ unfolding letterReceived bytesOf bytes
 returns-26 c = sym (unlisted (escape ∷ []) _ Unit letterKeys (c .match .rest) .1)
 
 pub letter-received-spec : {M : Type 1} → statement M
-letter-received-spec = tie.close (tie.spec returns returns-2 returns-3 returns-4 returns-5 returns-6 returns-7 returns-8 returns-9 returns-10 returns-11 returns-12 returns-13 returns-14 returns-15 returns-16 returns-17 returns-18 returns-19 returns-20 returns-21 returns-22 returns-23 returns-24 returns-25 returns-26)
+letter-received-spec = tie.close (tie.spec
+    returns returns-2 returns-3 returns-4 returns-5 returns-6 returns-7 returns-8 returns-9 returns-10 returns-11 returns-12 returns-13
+    returns-14 returns-15 returns-16 returns-17 returns-18 returns-19 returns-20 returns-21 returns-22 returns-23 returns-24 returns-25 returns-26)
