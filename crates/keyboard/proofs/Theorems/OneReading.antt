@@ -8,7 +8,9 @@ use lib.Seq.{drop-at}
 use Rattle.keyboard.specs.Words.{Key, More}
 use Rattle.keyboard.specs.Rules.Keyboard.{bytesOf, received}
 use Rattle.keyboard.specs.Rules.Streams.{aKey, behind, then, turns, reading, readingPieces, joined}
+use Rattle.keyboard.specs.Rules.Streams.{Host, host, arriveAll, pressAll, keysIn}
 use Rattle.keyboard.proofs.Laws.Answers.{read-back}
+use Rattle.keyboard.proofs.Laws.Hosts.{all-arrived}
 use Rattle.keyboard.proofs.Laws.Streams.{reading-on, waiting-more, pieces-on}
 use Rattle.keyboard.proofs.Theorems.Readings.{more-short}
 
@@ -44,3 +46,12 @@ keys-read (k ∷ ks) sent =
     ∙ ap (λ a. then a (bytesOf k ++ rest) reading) (read-back k rest (sent .0))
     ∙ ap (λ s. behind (aKey k ∷ []) (reading s)) (drop-at (bytesOf k) rest (length (bytesOf k)) refl)
     ∙ ap (behind (aKey k ∷ [])) (keys-read ks (sent .1))
+
+-- ---- A host
+
+-- Whatever a key does: a host that receives bytes in any pieces and presses each key as soon as it is there has, in the end, pressed the keys
+-- that the stream reads as, in their order, and has the bytes left that wait.
+pub host-pressed : {A : Type 0} (press : Key → A → A) (pieces : List (List ℕ)) (at : A)
+    → arriveAll press pieces (host at []) ≡ host (pressAll press (keysIn (reading (joined pieces) .items)) at) (reading (joined pieces) .waiting)
+host-pressed press pieces at =
+    all-arrived press pieces (host at []) ∙ ap (λ r. host (pressAll press (keysIn (r .items)) at) (r .waiting)) (one-reading pieces)

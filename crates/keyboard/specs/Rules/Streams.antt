@@ -50,3 +50,37 @@ unfoldable pub keysIn : List Item → List Key
 keysIn [] = []
 keysIn (aKey k ∷ items) = k ∷ keysIn items
 keysIn (aRefusal code ∷ items) = keysIn items
+
+-- ---- A host at work
+
+-- Where it is, whatever a key makes of that, and the bytes that wait.
+pub record Host (A : Type 0) : Type 0 where
+  pub at : A
+  pub waiting : List ℕ
+
+abbrev pub host : {A : Type 0} → A → List ℕ → Host A
+host at waiting = record { at = at; waiting = waiting }
+
+module _ {A : Type 0} (press : Key → A → A) where
+  -- A key that was received is pressed at once; a refusal presses nothing. Both go on behind the bytes that they used.
+  abbrev pub pressThen : Received → List ℕ → A → (List ℕ → A → Host A) → Host A
+  pressThen (Pressed k used) s at next = next (drop used s) (press k at)
+  pressThen More s at next = host at s
+  pressThen (Refused code used) s at next = next (drop used s) at
+
+  unfoldable pub pressTurns : ℕ → List ℕ → A → Host A
+  pressTurns zero s at = host at s
+  pressTurns (suc n) s at = pressThen (received s) s at (pressTurns n)
+
+  -- A piece arrives behind the bytes that wait; and pieces, one after the other.
+  unfoldable pub arrive : List ℕ → Host A → Host A
+  arrive piece h = let s = h .waiting ++ piece in pressTurns (length s) s (h .at)
+
+  unfoldable pub arriveAll : List (List ℕ) → Host A → Host A
+  arriveAll [] h = h
+  arriveAll (piece ∷ pieces) h = arriveAll pieces (arrive piece h)
+
+  -- A list of keys.
+  unfoldable pub pressAll : List Key → A → A
+  pressAll [] at = at
+  pressAll (k ∷ ks) at = pressAll ks (press k at)

@@ -8,25 +8,15 @@ use Rattle.keyboard.proofs.Laws.Table.{unlisted}
 use Rattle.keyboard.proofs.reader.arrow_received.Statement.{statement}
 use Rattle.keyboard.proofs.reader.arrow_received.Tie as tie
 
-returns : tie.Need-returns
-unfolding arrowReceived keyAmong bytesOf bytes sameBytes
-returns c = sym (ap arrowReceived (c .match .keys1))
-
-returns-2 : tie.Need-returns-2
-unfolding arrowReceived keyAmong bytesOf bytes sameBytes
-returns-2 c = sym (ap arrowReceived (c .match .keys2))
-
-returns-3 : tie.Need-returns-3
-unfolding arrowReceived keyAmong bytesOf bytes sameBytes
-returns-3 c = sym (ap arrowReceived (c .match .keys3))
-
-returns-4 : tie.Need-returns-4
-unfolding arrowReceived keyAmong bytesOf bytes sameBytes
-returns-4 c = sym (ap arrowReceived (c .match .keys4))
-
 returns-5 : tie.Need-returns-5
 unfolding arrowReceived bytesOf bytes
-returns-5 c = sym (unlisted (escape ∷ bracket ∷ []) _ Unit arrowKeys (c .match .rest) .1)
+returns-5 c = sym (unlisted (escape ∷ (bracket ∷ [])) _ Unit arrowKeys (c .match .rest) .1)
 
 pub arrow-received-spec : {M : Type 1} → statement M
-arrow-received-spec = tie.close (tie.spec returns returns-2 returns-3 returns-4 returns-5)
+unfolding arrowReceived keyAmong bytesOf bytes sameBytes
+arrow-received-spec = tie.close (tie.spec
+    (λ c. sym (ap arrowReceived (c .match .keys1)))  -- returns
+    (λ c. sym (ap arrowReceived (c .match .keys2)))  -- returns-2
+    (λ c. sym (ap arrowReceived (c .match .keys3)))  -- returns-3
+    (λ c. sym (ap arrowReceived (c .match .keys4)))  -- returns-4
+    returns-5)

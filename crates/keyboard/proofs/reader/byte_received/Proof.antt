@@ -7,14 +7,6 @@ use Rattle.keyboard.proofs.Laws.Table.{below-printed, above-printed, by
 use Rattle.keyboard.proofs.reader.byte_received.Statement.{statement}
 use Rattle.keyboard.proofs.reader.byte_received.Tie as tie
 
-returns : tie.Need-returns
-unfolding byteReceived keyAmong bytesOf sameBytes
-returns c = sym (ap byteReceived (c .if1 .taken))
-
-returns-2 : tie.Need-returns-2
-unfolding byteReceived keyAmong bytesOf sameBytes
-returns-2 c = sym (ap byteReceived (c .if2 .taken))
-
 returns-3 : tie.Need-returns-3
 returns-3 c =
     let start : tie.Start = search in let else1 : tie.Else1 = search in let else2 : tie.Else2 = search in
@@ -31,4 +23,8 @@ returns-5 c =
     sym (byte-printed (start .args .b) (else1 .if1 .left) (omega (arith, else3 .if3 .left)) (omega (arith, c .if4 .left)))
 
 pub byte-received-spec : {M : Type 1} → statement M
-byte-received-spec = tie.close (tie.spec returns returns-2 returns-3 returns-4 returns-5)
+unfolding byteReceived keyAmong bytesOf sameBytes
+byte-received-spec = tie.close (tie.spec
+    (λ c. sym (ap byteReceived (c .if1 .taken)))  -- returns
+    (λ c. sym (ap byteReceived (c .if2 .taken)))  -- returns-2
+    returns-3 returns-4 returns-5)
