@@ -2,17 +2,17 @@
 use mathlib.Core.Path.{_≡_, refl, sym, ap, _∙_}
 use mathlib.Core.Logic.{_≢_}
 use mathlib.Core.List.{List, [], _∷_, _++_, map}
-use Prim.Native.Nat.{ℕ, _≤_}
-use lib.ListN.{length}
+use Prim.Native.Nat.{ℕ, zero, suc, _≤_}
+use lib.ListN.{length, drop}
 use lib.Seq.{drop-at}
-use Rattle.keyboard.specs.Words.{Key, More}
+use Rattle.keyboard.specs.Words.{Key, Received, Pressed, More, Refused}
 use Rattle.keyboard.specs.Rules.Keyboard.{bytesOf, received}
 use Rattle.keyboard.specs.Rules.Streams.{aKey, behind, then, turns, reading, readingPieces, joined}
-use Rattle.keyboard.specs.Rules.Streams.{Host, host, arriveAll, pressAll, keysIn}
+use Rattle.keyboard.specs.Rules.Streams.{host, arriveAll, pressAll, keysIn}
 use Rattle.keyboard.proofs.Laws.Answers.{read-back}
 use Rattle.keyboard.proofs.Laws.Hosts.{all-arrived}
 use Rattle.keyboard.proofs.Laws.Streams.{reading-on, waiting-more, pieces-on}
-use Rattle.keyboard.proofs.Theorems.Readings.{more-short}
+use Rattle.keyboard.proofs.Theorems.Readings.{reads-exactly, more-short}
 
 -- Keys, refusals and the bytes that wait are a function of the bytes alone: pieces read as the stream that they make.
 pub one-reading : (pieces : List (List ℕ)) → readingPieces pieces ≡ reading (joined pieces)
@@ -46,6 +46,23 @@ keys-read (k ∷ ks) sent =
     ∙ ap (λ a. then a (bytesOf k ++ rest) reading) (read-back k rest (sent .0))
     ∙ ap (λ s. behind (aKey k ∷ []) (reading s)) (drop-at (bytesOf k) rest (length (bytesOf k)) refl)
     ∙ ap (behind (aKey k ∷ [])) (keys-read ks (sent .1))
+
+-- Every key that a stream reads as is one that has bytes.
+sent-at : (answer : Received) (s : List ℕ) (n : ℕ) → received s ≡ answer → ((rest : List ℕ) → AllSent (keysIn (turns n rest .items)))
+    → AllSent (keysIn (then answer s (turns n) .items))
+unfolding keysIn
+sent-at (Pressed k used) s n e later = (reads-exactly s (Pressed k used) .0 e .sent, later (drop used s))
+sent-at More s n e later = tt
+sent-at (Refused code used) s n e later = later (drop used s)
+
+turns-sent : (n : ℕ) (s : List ℕ) → AllSent (keysIn (turns n s .items))
+unfolding turns keysIn
+turns-sent zero s = tt
+turns-sent (suc n) s = sent-at (received s) s n refl (turns-sent n)
+
+pub read-sent : (s : List ℕ) → AllSent (keysIn (reading s .items))
+unfolding reading
+read-sent s = turns-sent (length s) s
 
 -- ---- A host
 
