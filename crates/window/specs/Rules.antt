@@ -9,3 +9,4 @@ pub mod Sending
 pub mod Machine
 pub mod Host
 pub mod HostRun
+pub mod Receiving
