@@ -4,6 +4,7 @@ pub mod cells;
 pub mod cursor;
 pub mod host;
 pub mod host_keys;
+pub mod host_receive;
 pub mod painter;
 pub mod sender;
 pub mod sequences;
