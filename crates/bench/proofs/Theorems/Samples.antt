@@ -33,7 +33,7 @@ unfolding every sameBytes begins part patch zeros counted bytes move delete time
     lineEnding word documentEnd isAt soundKey inserted carried function recalled onSide quoted withPattern searched found withReplacement
     exchanged substituted replaced markThrough markedHere cutTo pasted acted changeOf pressed fits bounded key quarter sized plainOf
     lengthsOf storesOf editorOk linesFit noneLonger longestLine virtualIn rowCells joined window visible policy firstRow lastRow tabled
-    isSession openedText opened longLine lineAt lineOf shown finished keyed combinations functionNamed indentNamed markNamed keyNamed lineOf
-    lineAt endAt nextAt lineNumber fieldOf headerAt textThere headingOf keyOf readingAt entry rowsOf acceptedBlock refusedBlock block
-    scriptLine beginning openingTurn pressedTurn nextTurn turns fresh output printed
+    isSession openedText opened longLine lineAt lineOf shown finished keyed combinations functionNamed indentNamed markNamed keyNamed endAt
+    nextAt lineNumber fieldOf headerAt textThere headingOf keyOf readingAt entry rowsOf acceptedBlock refusedBlock block scriptLine
+    beginning openingTurn pressedTurn nextTurn turns fresh output printed
 samples-printed = refl
