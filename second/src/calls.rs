@@ -1,7 +1,7 @@
 //! Calls at the host's boundary: keys on sessions that are made directly (not only such as keys lead to) and then often damaged,
 //! openings of anything, and small arbitrary numbers and bytes.
 
-use crate::bytes::{encode, record, Record, Stores, LARGEST_T, NO_MARK};
+use crate::bytes::{encode, record, Record, Stores, LARGEST_T, NO_MARK, SIDE};
 use crate::core::{numbers_of, Core, Numbers, Reply};
 use crate::damage;
 use crate::generate::{columns, deck, function, length, letters, rows, store, text, DIRECTIONS, NOT_ALLOWED};
@@ -99,7 +99,7 @@ fn pattern(random: &mut Random, letters: &[u8], document: &Doc) -> Vec<u8> {
             text(random, letters, n)
         }
         _ => {
-            let n = random.within(250, QUARTER);
+            let n = random.within(QUARTER - 6, QUARTER);
             text(random, letters, n)
         }
     }
@@ -310,7 +310,7 @@ fn arbitrary(random: &mut Random) -> Call {
         stores.recall[random.below(t)] = random.pick(&[0, 10, 32, b'a', 127]);
         stores.held[random.below(t)] = random.pick(&[0, 0, 10, 32, b'a', 127]);
         stores.side[random.below(4) * QUARTER] = random.pick(&[0, 10, 32, b'a', 127]);
-        stores.side[random.below(1_024)] = random.pick(&[0, 0, 0, b'a']);
+        stores.side[random.below(SIDE)] = random.pick(&[0, 0, 0, b'a']);
     }
     let numbers = Numbers { kind: random.below(12), a: random.below(4), b: random.below(3), c: random.below(6) };
     Call { kind: Kind::Key { record, numbers }, stores }

@@ -5,6 +5,7 @@ use crate::calls::{Call, Kind};
 use crate::core::Reply;
 use crate::paint::Painting;
 use crate::paint_calls::PaintCall;
+use crate::plain::QUARTER;
 
 /// A script, with odd bytes so that `printf %b` gives it back.
 pub fn script(bytes: &[u8]) -> String {
@@ -49,7 +50,7 @@ fn areas(stores: &Stores) -> Vec<(&str, &[u8])> {
     let names = ["quotation", "its recall", "pattern", "replacement", "more"];
     let mut areas =
         vec![("text", &stores.text[..]), ("recall", &stores.recall), ("held", &stores.held), ("screen", &stores.screen)];
-    areas.extend(names.into_iter().zip(stores.side.chunks(256)));
+    areas.extend(names.into_iter().zip(stores.side.chunks(QUARTER)));
     areas
 }
 
@@ -75,7 +76,7 @@ pub fn call(call: &Call) -> String {
             format!("  key         kind={} a={} b={} c={}\n{}", key.kind, key.a, key.b, key.c, numbers(record))
         }
     };
-    let shown = areas(&call.stores).into_iter().filter(|(_, area)| *area != [0; 256]);
+    let shown = areas(&call.stores).into_iter().filter(|(_, area)| *area != [0; QUARTER]);
     head + &shown.map(|area| line(&area)).collect::<String>()
 }
 

@@ -4,7 +4,7 @@ use crate::bytes::{encode, record, session, sizes_fit, Stores, NO_MARK};
 use crate::calls::{Call, Kind};
 use crate::paint::{bytes, on_screen, Ask};
 use crate::paint_calls::PaintCall;
-use crate::plain::{Doc, Edited, Editor, NEWLINE};
+use crate::plain::{Doc, Edited, Editor, NEWLINE, QUARTER};
 use crate::walk::Walk;
 use crate::window::{policy, virtual_text, window, Offsets};
 
@@ -289,7 +289,7 @@ fn smaller_bytes(call: &Call) -> Vec<Call> {
         with(&|call| *numbers(&mut call.kind)[18] = NO_MARK);
         for (quarter, lengths) in [[2, 3], [6, 7], [10, 10], [8, 9]].into_iter().enumerate() {
             with(&|call| {
-                call.stores.side.chunks_mut(256).skip(quarter).take(1).for_each(|area| area.fill(0));
+                call.stores.side.chunks_mut(QUARTER).skip(quarter).take(1).for_each(|area| area.fill(0));
                 zero(call, lengths);
             });
         }
