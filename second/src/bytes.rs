@@ -123,12 +123,17 @@ fn pair(doc: &Doc, length: usize) -> Vec<u8> {
 /// The text store, the recall store, the held text's store and the side store of a plain state. The screen isn't a matter of the state
 /// alone.
 pub fn encode(editor: &Editor, t: usize) -> (Vec<u8>, Vec<u8>, Vec<u8>, Vec<u8>) {
+    encode_by(editor, t, QUARTER)
+}
+
+/// The same with a side store whose quarters are so long.
+pub fn encode_by(editor: &Editor, t: usize, length: usize) -> (Vec<u8>, Vec<u8>, Vec<u8>, Vec<u8>) {
     let pattern = Doc::new(&editor.pattern, &[]);
     let side = [
-        gap(&editor.quoted.text, QUARTER),
-        pair(&editor.quoted.recall, QUARTER),
-        pair(&pattern, QUARTER),
-        pair(&editor.replacement, QUARTER),
+        gap(&editor.quoted.text, length),
+        pair(&editor.quoted.recall, length),
+        pair(&pattern, length),
+        pair(&editor.replacement, length),
     ];
     (gap(&editor.main.text, t), pair(&editor.main.recall, t), pair(&editor.held, t), side.concat())
 }
