@@ -9,8 +9,13 @@ const DOCUMENT_LEFT: Key = Key(1, 0, 0, 4);
 const DOCUMENT_RIGHT: Key = Key(1, 0, 1, 4);
 const DELETE_TO_END: Key = Key(1, 1, 1, 4);
 const NEXT_LINE: Key = Key(1, 0, 1, 2);
+const NEXT_CHARACTER: Key = Key(1, 0, 1, 0);
+const LAST_CHARACTER: Key = Key(1, 0, 0, 0);
 const NEXT_WORD: Key = Key(1, 0, 1, 1);
 const LAST_WORD: Key = Key(1, 0, 0, 1);
+
+/// The longest line of a document that its reader takes.
+const LONGEST_LINE: usize = 1_024;
 
 pub struct Scene {
     pub name: &'static str,
@@ -31,13 +36,17 @@ pub fn all(t: usize, h: usize, w: usize) -> Vec<Scene> {
     // A share of the store stays free, as room for what is typed.
     let n = t - t / 64;
     let text = ordinary(n);
-    let letters = vec![b'a'; n];
+    let letters = lines_of(b'a', LONGEST_LINE, n);
+    let halves = lines_of(b'a', LONGEST_LINE / 2, n);
+    let short = lines_of(b'a', 8, n);
     let typed = typing(b"the quick brown fox jumps over\nthe lazy dog");
     let middle = to_middle(&text);
     // Each line is indented by eight spaces, as the one before. The free bytes of the smaller store are enough for two.
     let nested = [vec![NEWLINE], typing(b"time=10"), vec![TAB], typing(b"value=2.5")].concat().repeat(2);
-    let spaces = vec![b' '; t / 2 - 1];
+    // Whole lines, but for the last newline, so that the last line is as long as one may be.
+    let spaces = lines_of(b' ', LONGEST_LINE, t / 2 / (LONGEST_LINE + 1) * (LONGEST_LINE + 1) - 1);
     let rest = [DELETE_TO_END, RECALL];
+    let steps = [NEXT_CHARACTER, LAST_CHARACTER];
     let pattern = with_pattern(b"operates");
     // Last, the odd letter is what a comparison comes to after 255 others. Within, first and last byte do not tell either.
     let last = [vec![b'a'; 255], vec![b'b']].concat();
@@ -48,7 +57,7 @@ pub fn all(t: usize, h: usize, w: usize) -> Vec<Scene> {
         scene("NEWLINE behind spaces", &spaces, &[DOCUMENT_RIGHT], &[NEWLINE]),
         scene("to the end and back", &text, &[], &[DOCUMENT_RIGHT, DOCUMENT_LEFT]),
         scene("word by word", &text, &middle, &[NEXT_WORD, NEXT_WORD, LAST_WORD, LAST_WORD]),
-        scene("a word as long as the text", &letters, &[], &[NEXT_WORD]),
+        scene("words as long as lines", &letters, &to_middle(&letters), &[NEXT_WORD, LAST_WORD]),
         scene("delete half and RECALL", &text, &[&middle[..], &rest].concat(), &rest),
         scene("CUT half and PASTE", &text, &[&middle[..], &[MARK, DOCUMENT_RIGHT]].concat(), &[CUT, PASTE]),
         scene("FIND, ordinary text", &text, &pattern, &[FIND]),
@@ -56,6 +65,9 @@ pub fn all(t: usize, h: usize, w: usize) -> Vec<Scene> {
         scene("FIND, odd letter last", &letters, &with_pattern(&last), &[FIND]),
         scene("FIND, odd letter within", &letters, &with_pattern(&within), &[FIND]),
         scene("QUOTE in and out", &text, &middle, &[QUOTE, QUOTE]),
+        scene("steps, longest lines", &letters, &within_middle(&letters), &steps),
+        scene("steps, lines of 512", &halves, &within_middle(&halves), &steps),
+        scene("steps, short lines", &short, &within_middle(&short), &steps),
     ]
 }
 
@@ -84,10 +96,20 @@ fn ordinary(n: usize) -> Vec<u8> {
     text
 }
 
+/// n bytes: lines of the same length, of one byte only.
+fn lines_of(b: u8, length: usize, n: usize) -> Vec<u8> {
+    [vec![b; length], vec![b'\n']].concat().into_iter().cycle().take(n).collect()
+}
+
 /// Keys that bring the cursor from the beginning to the middle, into a line.
 fn to_middle(text: &[u8]) -> Vec<Key> {
     let lines = text[..text.len() / 2].iter().filter(|&&b| b == b'\n').count();
     [vec![NEXT_LINE; lines], vec![NEXT_WORD; 2]].concat()
+}
+
+/// The same for a text without spaces.
+fn within_middle(text: &[u8]) -> Vec<Key> {
+    [to_middle(text), vec![NEXT_CHARACTER; 4]].concat()
 }
 
 /// Keys that store a pattern which occurs nowhere: the cursor stays.

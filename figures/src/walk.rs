@@ -8,7 +8,7 @@ use crate::{hand, proved};
 /// How the calls of the walks were answered: by code, and the accepted ones with the bell.
 #[derive(Default)]
 pub struct Counts {
-    pub codes: [u64; 7],
+    pub codes: [u64; 9],
     pub bells: u64,
 }
 
@@ -22,15 +22,15 @@ pub fn compare(walks: u64) -> Counts {
 }
 
 fn walk(random: &mut Random, counts: &mut Counts) {
-    let t = 1 + match random.below(4) {
-        0 => random.below(16),
-        1 | 2 => random.below(600),
-        _ => random.below(5000),
+    let (t, lines): (_, fn(&mut Random, usize) -> Vec<u8>) = match random.below(6) {
+        0 => (1 + random.below(16), short_lines),
+        1 | 2 => (1 + random.below(600), short_lines),
+        3 => (1 + random.below(5_000), short_lines),
+        _ => (1_100 + random.below(4_000), long_lines),
     };
     let (rows, columns) = random.one(&[(8, 16), (64, 256)]);
     let (h, w) = (1 + random.below(rows), 1 + random.below(columns));
-    let n = random.below(t + 1);
-    let document: Vec<u8> = (0..n).map(|_| letter(random)).collect();
+    let document = lines(random, t);
     let (mut record, mut stores) = proved::open(&document, t, h, w);
     for _ in 0..200 {
         let key = any_key(random);
@@ -53,6 +53,23 @@ fn both(record: Record, key: Key, stores: &mut Stores, counts: &mut Counts) -> R
     counts.codes[reply.answer.code] += 1;
     counts.bells += reply.answer.bell as u64;
     reply
+}
+
+/// A text of at most t bytes with lines of a few letters: one that is too long does not come up.
+fn short_lines(random: &mut Random, t: usize) -> Vec<u8> {
+    (0..random.below(t + 1)).map(|_| letter(random)).collect()
+}
+
+/// One with lines about as long as a line may be, and empty and short ones between them: joined or typed on they soon are too long.
+fn long_lines(random: &mut Random, t: usize) -> Vec<u8> {
+    let mut text = Vec::new();
+    while text.len() < t && !random.once_in(8) {
+        let n = random.one(&[0, 1, 8, 511, 512, 513, 1_016, 1_023, 1_024, 1_024, 1_024]);
+        text.extend((0..n).map(|_| random.one(b"aaab ")));
+        text.push(b'\n');
+    }
+    text.truncate(t);
+    text
 }
 
 /// Few letters, so that patterns are found.
@@ -79,11 +96,11 @@ fn any_key(random: &mut Random) -> Key {
     }
 }
 
-/// Changes a number of the record, a byte of a store or the length of one, cuts recall texts and held text in two, or puts the mark at the
-/// document's end or one behind it.
+/// Changes a number of the record, a byte of a store or the length of one, cuts recall texts and held text in two, puts the mark at the
+/// document's end or one behind it, or joins two lines of the text.
 fn damage(random: &mut Random, mut n: Record, stores: &mut Stores) -> Record {
     let Stores { text, recall, held, side, screen } = stores;
-    match random.below(8) {
+    match random.below(9) {
         0..=2 => {
             let m = &mut n;
             let numbers = [&mut m.l, &mut m.r, &mut m.ql, &mut m.qr, &mut m.rl, &mut m.rr, &mut m.qrl, &mut m.qrr];
@@ -105,6 +122,10 @@ fn damage(random: &mut Random, mut n: Record, stores: &mut Stores) -> Record {
         }
         5 => side[random.below(1024)] = random.one(&[0, 9, 10, 97, 127]),
         6 => n.mark = n.l + n.r + random.below(2),
+        7 => {
+            let newline = text.iter_mut().filter(|b| **b == b'\n').nth(random.below(4));
+            newline.map(|b| *b = b'a');
+        }
         _ => [text, recall, held, side, screen].into_iter().nth(random.below(5)).unwrap().push(0),
     }
     n

@@ -28,7 +28,7 @@
 extern "C" {
 #endif
 
-/* Refusals. A call gives the first that applies: opening checks 1, 2, 3, a key checks 1, 4, 5, 6, painting checks 1, 3, 7. */
+/* Refusals. A call gives the first that applies: opening checks 1, 2, 3, 8, a key checks 1, 4, 5, 6, 8, painting checks 1, 3, 7. */
 enum {
     CHIDUKWORE_OK = 0,
     CHIDUKWORE_SIZE = 1,    /* a store's length, rows or columns are not as above; painting: or the named rows are off the screen, out of
@@ -40,7 +40,9 @@ enum {
     CHIDUKWORE_KEY = 5,     /* key: no such key, a byte that is not allowed, one of the two deletions that are not carried out, or in QUOTED
                                MARK, CUT or PASTE */
     CHIDUKWORE_FULL = 6,    /* key: the finished text would not fit its store */
-    CHIDUKWORE_ROOM = 7     /* painting: there are more bytes than the buffer holds */
+    CHIDUKWORE_ROOM = 7,    /* painting: there are more bytes than the buffer holds */
+    CHIDUKWORE_LINE = 8     /* opening: a line of the text has more than 1,024 bytes, its newline not counted; place is the index of the first
+                               byte of the first such line. Key: the finished document would have such a line; place is 0 */
 };
 
 /* Kinds of key, with what a, b and c say. Numbers that name no key are refused with CHIDUKWORE_KEY. */
@@ -77,6 +79,7 @@ enum {
  *   the lengths fit: l + r, rl + rr and held_left + held_right are at most T, and ql + qr, qrl + qrr, xl + xr and pl at most 256, sums
  *   that never wrap;
  *   every byte of a text is 10 or 32 to 126, and every byte of text, recall, held and side that belongs to none is 0;
+ *   no line of the document has more than 1,024 bytes, its newline not counted; the quotation's are not looked at;
  *   of each recall text at least one half is empty, rl or rr is 0 and qrl or qrr is 0; so of the held text, held_left or held_right;
  *   mark is at most l + r, or CHIDUKWORE_NO_MARK;
  *   in MAIN the quotation and its recall text are empty: ql, qr, qrl and qrr are 0;
@@ -99,7 +102,7 @@ struct chidukwore_record {
 /* What a call answers. After a refusal everything but code and place is 0. */
 struct chidukwore_answer {
     size_t code;        /* 0, or a refusal */
-    size_t place;       /* for CHIDUKWORE_TEXT only */
+    size_t place;       /* for CHIDUKWORE_TEXT, and for an opening's CHIDUKWORE_LINE; else 0 */
     size_t steps;       /* of moves, deletions and searches; of CUT the bytes that it took, of NEWLINE and TAB those that they inserted */
     size_t lines;       /* the newlines that the steps of moves, deletions and searches went over or removed */
     size_t bell;        /* 1 where no place, match or mark was found */

@@ -61,7 +61,8 @@ fn play(script: &Script, frames: bool) -> Result<(), String> {
 
     let reply = chidukwore::open(script.text.len(), rows, columns, bench.lent());
     if reply.answer.code != 0 {
-        return Err(format!("the opening is refused with code {}", reply.answer.code));
+        let Answer { code, place, .. } = reply.answer;
+        return Err(format!("the opening is refused with code {code}, place {place}"));
     }
     bench.send(reply).map_err(unwritten)?;
     for key in &script.keys {

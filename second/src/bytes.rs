@@ -1,6 +1,7 @@
-//! The record and the five stores (01, "What the core holds"; 02, M-101): sizes, encoding, decoding, and the session test by its sentences.
+//! The record and the five stores (01, "What the core holds"; 02, M-101, M-106): sizes, encoding, decoding, and the session test by its sentences.
 
 use crate::plain::{allowed, Doc, Edited, Editor, Mode, QUARTER};
+use crate::reader::too_long;
 use crate::window::{virtual_text, visible, Offsets};
 
 pub const LARGEST_T: usize = 65_536;
@@ -222,9 +223,12 @@ pub fn session(record: &Record, stores: &Stores) -> Option<Editor> {
     // In mode MAIN the quotation and its recall text are empty.
     let quiet = editor.mode == Mode::Quoted || editor.quoted == Edited::default();
 
+    // No line of the document is longer than the reader takes: "a session needs it too" (02, M-106).
+    let readable = too_long(&main.text.content()).is_none();
+
     // The cursor is visible under r and c.
     let at = Offsets { r: record.top, c: record.left };
     let seen = visible(&virtual_text(&editor), at, record.rows, record.columns);
 
-    (letters && halves && quiet && seen).then_some(editor)
+    (letters && halves && quiet && readable && seen).then_some(editor)
 }

@@ -5,6 +5,7 @@ use crate::bytes::{encode, record, Record, Stores, LARGEST_T, NO_MARK};
 use crate::core::{numbers_of, Core, Numbers, Reply};
 use crate::damage;
 use crate::generate::{columns, deck, function, length, letters, rows, store, text, DIRECTIONS, NOT_ALLOWED};
+use crate::long_lines;
 use crate::plain::{press, Action, Direction, Doc, Edited, Editor, Key, Mode, QUARTER};
 use crate::random::Random;
 use crate::window::{cursor, virtual_text, window, Offsets};
@@ -196,11 +197,19 @@ fn key(random: &mut Random, letters: &[u8]) -> Key {
 
 /// A key on a session that is then damaged so many times.
 fn on_session(random: &mut Random, times: usize) -> Call {
-    let (t, h, w) = (any_store(random), rows(random), columns(random));
+    let (h, w) = (rows(random), columns(random));
+    // One time in ten a small session whose lines are then lengthened.
+    let long = random.percent(10);
+    let mut t = if long { random.within(1, 64) } else { any_store(random) };
     let mut editor = editor(random, t);
     let letters = letters(random);
-    let key = key(random, letters);
+    let key = if long && random.percent(85) { long_lines::key(random) } else { key(random, letters) };
     editor.mark = mark(random, &editor, key, t);
+    if long {
+        editor = long_lines::lengthen(random, &editor, key);
+        let least = [&editor.main.text, &editor.main.recall, &editor.held].map(Doc::length).into_iter().fold(1, usize::max);
+        t = least + random.pick(&[0, 1, 2, 9, 70, 300, 300]);
+    }
     if times > 0 && random.percent(6) {
         // Back in MAIN, with something of the quotation left.
         editor.mode = Mode::Main;
@@ -237,8 +246,13 @@ fn on_session(random: &mut Random, times: usize) -> Call {
 
 /// An opening over whatever the stores held before.
 fn opening(random: &mut Random) -> Call {
-    let (t, mut h, mut w) = (any_store(random), rows(random), columns(random));
+    let (mut h, mut w) = (rows(random), columns(random));
     let letters = letters(random);
+    let long = random.percent(25).then(|| long_lines::to_open(random));
+    let t = match &long {
+        Some(text) => text.len().max(1) + random.pick(&[0, 0, 1, 20]),
+        None => any_store(random),
+    };
     let mut stores = Stores::zeros(t, h, w);
     let [old_recall, old_held, old_screen] = [(); 3].map(|()| random.draw() as u8);
     stores.text = deck(random, letters, t);
@@ -249,8 +263,11 @@ fn opening(random: &mut Random) -> Call {
     let n = match random.below(10) {
         0 => t + 1,
         1 => random.pick(&damage::HUGE),
-        _ => length(random, t),
+        _ => long.as_ref().map_or_else(|| length(random, t), Vec::len),
     };
+    if let Some(text) = long {
+        stores.text[..text.len()].copy_from_slice(&text);
+    }
     // Before n, at its edge, or behind it.
     for _ in 0..random.pick(&[0, 0, 0, 1, 2]) {
         let at = if random.percent(50) { n.wrapping_sub(random.below(2)) } else { random.below(t) };

@@ -33,7 +33,7 @@ pub struct Counts {
 /// Calls by their codes.
 #[derive(Default)]
 pub struct Codes {
-    pub codes: [usize; 8],
+    pub codes: [usize; 9],
     pub bells: usize,
     /// Deletions with the bell, where there was recall text to keep.
     pub kept: usize,
@@ -62,7 +62,7 @@ impl Codes {
 
 impl std::fmt::Display for Codes {
     fn fmt(&self, f: &mut std::fmt::Formatter) -> std::fmt::Result {
-        let names = ["accepted", "SIZE", "LONG", "TEXT", "SESSION", "KEY", "FULL", "ROOM"];
+        let names = ["accepted", "SIZE", "LONG", "TEXT", "SESSION", "KEY", "FULL", "ROOM", "LINE"];
         let names = names.iter().chain(&["bell", "recall text kept", "lines crossed", "in QUOTED", "with a mark"]);
         let counts = self.codes.into_iter().chain([self.bells, self.kept, self.crossed, self.quoted, self.marked]);
         let shown: Vec<String> =
@@ -113,8 +113,11 @@ pub fn calls(core: &dyn Core, seed: u64, count: u64, counts: &mut Counts) -> Res
     Ok(())
 }
 
-/// Mostly small; one in 200 as large as a store may be, and then short, for it is slow.
+/// Mostly small; one in 200 as large as a store may be, and then short, for it is slow; one in eight along lines as long as may be.
 fn a_walk(random: &mut Random, i: u64) -> Walk {
+    if i % 8 == 4 {
+        return walk::along_long_lines(random);
+    }
     let t = if i % 200 == 199 { random.within(4_097, LARGEST_T) } else { generate::store(random) };
     let mut walk = walk::walk(random, t);
     if t > 4_096 {

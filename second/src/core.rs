@@ -4,6 +4,7 @@
 use crate::bytes::{encode, record, session, sizes_fit, Record, Stores};
 use crate::paint::{paint, Ask, Painting};
 use crate::plain::{allowed, press, Action, Direction, Doc, Edited, Editor, Key, Place, Refusal};
+use crate::reader::too_long;
 use crate::window::{cursor, named_rows, policy, virtual_text, window, Offsets};
 
 pub const SIZE: usize = 1;
@@ -12,6 +13,7 @@ pub const TEXT: usize = 3;
 pub const SESSION: usize = 4;
 pub const KEY: usize = 5;
 pub const FULL: usize = 6;
+pub const LINE: usize = 8;
 
 #[repr(C)]
 #[derive(Clone, Copy, Debug, Default, PartialEq, Eq)]
@@ -65,6 +67,9 @@ impl Core for Second {
         if let Some(place) = stores.text[..n].iter().position(|byte| !allowed(*byte)) {
             return refused(TEXT, place);
         }
+        if let Some(place) = too_long(&stores.text[..n]) {
+            return refused(LINE, place);
+        }
         let text = Doc::new(&[], &stores.text[..n]);
         let editor = Editor { main: Edited { text, recall: Doc::default() }, ..Editor::default() };
         let mut reply = finish(&editor, Offsets::default(), h, w, stores);
@@ -87,6 +92,7 @@ impl Core for Second {
         match press(&before, key, stores.text.len()) {
             Err(Refusal::Key) => refused(KEY),
             Err(Refusal::Full) => refused(FULL),
+            Err(Refusal::Line) => refused(LINE),
             Ok(pressed) => {
                 let offsets = Offsets { r: given.top, c: given.left };
                 let mut reply = finish(&pressed.editor, offsets, h, w, stores);

@@ -2,6 +2,7 @@
 
 use crate::plain::{Action, Direction, Key, Place, NEWLINE, SPACE};
 use crate::random::Random;
+use crate::reader::LONGEST_LINE;
 
 pub const DIRECTIONS: [Direction; 2] = [Direction::Left, Direction::Right];
 pub const PLACES: [Place; 5] = [Place::Character, Place::Word, Place::LineBeginning, Place::LineEnding, Place::Document];
@@ -28,10 +29,11 @@ pub fn text(random: &mut Random, letters: &[u8], n: usize) -> Vec<u8> {
     text
 }
 
-/// n bytes of a document or quotation: such a text, or one whose lines are indented.
+/// n bytes of a document or quotation: such a text, or one whose lines are indented. The reader takes its lines.
 pub fn deck(random: &mut Random, letters: &[u8], n: usize) -> Vec<u8> {
     if random.percent(65) {
-        return text(random, letters, n);
+        let text = text(random, letters, n);
+        return broken(random, text);
     }
     let mut deck = Vec::with_capacity(n);
     while deck.len() < n {
@@ -42,6 +44,19 @@ pub fn deck(random: &mut Random, letters: &[u8], n: usize) -> Vec<u8> {
     }
     deck.truncate(n);
     deck
+}
+
+/// Newlines in lines that are longer than the reader takes, often just where it stops.
+fn broken(random: &mut Random, mut text: Vec<u8>) -> Vec<u8> {
+    let longest = random.pick(&[LONGEST_LINE, LONGEST_LINE, LONGEST_LINE - 1, 300]);
+    let mut column = 0;
+    for byte in &mut text {
+        if column == longest {
+            *byte = NEWLINE;
+        }
+        column = if *byte == NEWLINE { 0 } else { column + 1 };
+    }
+    text
 }
 
 /// T up to 4,096.

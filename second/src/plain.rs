@@ -1,9 +1,10 @@
-//! The plain editor (01, "The plain editor"; 02, M-101, M-103 to M-105; readings, B and C; 001, sections 1.1 to 1.5): two sequences,
+//! The plain editor (01, "The plain editor"; 02, M-101, M-103 to M-106; readings, B and C; 001, sections 1.1 to 1.5): two sequences,
 //! places, distances by trying each d, keys. Nothing here knows of stores or screens. A key works on texts without bound; only the
-//! finished text is held against its room.
+//! finished text is held against its room and the reader.
 
 use crate::indent;
 use crate::mark::{after_deletion, after_insertion, Mark};
+use crate::reader::too_long;
 use std::collections::VecDeque;
 
 pub const NEWLINE: u8 = 10;
@@ -56,6 +57,7 @@ pub enum Key {
 pub enum Refusal {
     Key,
     Full,
+    Line,
 }
 
 /// A pair (l, r): the text left and right of the cursor. Recall text, replacement and held text are such pairs too.
@@ -274,6 +276,10 @@ pub fn press(before: &Editor, key: Key, t: usize) -> Result<Pressed, Refusal> {
     }
     if editor.main.text.length() > t || editor.quoted.text.length() > QUARTER {
         return Err(Refusal::Full);
+    }
+    // "Any key whose finished document would have one, joins by deletion included. The quotation has no such limit" (02, M-106).
+    if too_long(&editor.main.text.content()).is_some() {
+        return Err(Refusal::Line);
     }
     // Steps and lines are 0 with the bell.
     let Went { steps, lines } = went.unwrap_or_default();

@@ -4,7 +4,7 @@ use crate::bytes::{encode, record, session, sizes_fit, Stores, NO_MARK};
 use crate::calls::{Call, Kind};
 use crate::paint::{bytes, on_screen, Ask};
 use crate::paint_calls::PaintCall;
-use crate::plain::{Doc, Edited, Editor};
+use crate::plain::{Doc, Edited, Editor, NEWLINE};
 use crate::walk::Walk;
 use crate::window::{policy, virtual_text, window, Offsets};
 
@@ -37,15 +37,24 @@ fn leave_out<T: Clone>(mut items: Vec<T>, mut differs: impl FnMut(&[T]) -> bool)
     items
 }
 
-/// A walk with fewer keys, less text, a smaller store and a smaller screen.
+/// A walk with fewer keys, less text, a smaller store and a smaller screen. The text comes last: where a line must be as long as it is, each
+/// of its bytes is tried in vain.
 pub fn walk(mut walk: Walk, differs: impl FnMut(&Walk) -> bool) -> Walk {
     let mut differs = limited(differs);
     loop {
+        let before = [walk.keys.len(), walk.text.len(), walk.t, walk.h, walk.w];
         walk.keys = leave_out(walk.keys.clone(), |keys| differs(&Walk { keys: keys.to_vec(), ..walk.clone() }));
+        while let Some(smaller) = smaller_sizes(&walk).into_iter().find(&mut differs) {
+            walk = smaller;
+        }
+        let plain = walk.text.iter().map(|byte| if *byte == NEWLINE { NEWLINE } else { b'a' }).collect();
+        let plainer = Walk { text: plain, ..walk.clone() };
+        if differs(&plainer) {
+            walk = plainer;
+        }
         walk.text = leave_out(walk.text.clone(), |text| differs(&Walk { text: text.to_vec(), ..walk.clone() }));
-        match smaller_sizes(&walk).into_iter().find(&mut differs) {
-            Some(smaller) => walk = smaller,
-            None => return walk,
+        if before == [walk.keys.len(), walk.text.len(), walk.t, walk.h, walk.w] {
+            return walk;
         }
     }
 }

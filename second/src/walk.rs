@@ -2,10 +2,12 @@
 //! found and where the lines end, and steers for the hard corners instead of waiting for them.
 
 use crate::generate::{columns, deck, function, length, letters, rows, text, DIRECTIONS, NOT_ALLOWED, PLACES};
+use crate::long_lines;
 use crate::plain::{press, Action, Direction, Doc, Edited, Editor, Key, Mode, Place, QUARTER};
 use crate::random::Random;
 
 mod indents;
+mod long;
 mod marks;
 
 /// A session to be walked through: an opening and the keys after it.
@@ -21,16 +23,32 @@ pub struct Walk {
 /// A walk of 50 to 800 keys.
 pub fn walk(random: &mut Random, t: usize) -> Walk {
     let letters = letters(random);
-    let (h, w, n) = (rows(random), columns(random), length(random, t));
+    let n = length(random, t);
     let text = deck(random, letters, n);
     let keys = if random.percent(70) { random.within(50, 400) } else { random.within(50, 800) };
-    let main = Edited { text: Doc::new(&[], &text), recall: Doc::default() };
-    let editor = Editor { main, ..Editor::default() };
     let mut flavour = PHRASES.map(|(weight, _)| weight * random.pick(&[0, 1, 1, 4]) + 1);
     // Now and then hardly anything but keys with short names, so that 800 of them go into one script.
     if random.percent(5) {
         flavour[0] = 20_000;
     }
+    write(random, letters, t, text, flavour, keys)
+}
+
+/// A walk of 50 to 200 keys along lines of 1,024 bytes or nearly, or that would be as long if they were one.
+pub fn along_long_lines(random: &mut Random) -> Walk {
+    let letters = random.pick(&[b"a" as &[u8], b"ab", b"ab ", b"ab \n"]);
+    let text = long_lines::deck(random);
+    let t = text.len() + random.pick(&[0, 1, 5, 30, 300]);
+    let keys = random.within(50, 200);
+    let long = PHRASES.len() - long::PHRASES;
+    let flavour = std::array::from_fn(|i| if i < long { PHRASES[i].0 / 4 } else { 20 * random.pick(&[1, 2, 4]) });
+    write(random, letters, t, text, flavour, keys)
+}
+
+fn write(random: &mut Random, letters: &'static [u8], t: usize, text: Vec<u8>, flavour: Flavour, keys: usize) -> Walk {
+    let (h, w) = (rows(random), columns(random));
+    let main = Edited { text: Doc::new(&[], &text), recall: Doc::default() };
+    let editor = Editor { main, ..Editor::default() };
     let mut writer = Writer { random: Random::new(random.draw(), 0), letters, t, w, editor, flavour, keys: Vec::new() };
     while writer.keys.len() < keys {
         let phrase = writer.random.weighted(&writer.flavour);
@@ -46,15 +64,18 @@ struct Writer {
     t: usize,
     w: usize,
     editor: Editor,
-    flavour: [usize; PHRASES.len()],
+    flavour: Flavour,
     keys: Vec<Key>,
 }
 
 /// What a hand at the keyboard does next.
 type Phrase = fn(&mut Writer);
 
-/// The phrases, each with how often it comes.
-const PHRASES: [(usize, Phrase); 17] = [
+/// How often each phrase comes in one walk.
+type Flavour = [usize; PHRASES.len()];
+
+/// The phrases, each with how often it comes. The last five are for long lines, and rare where there are none.
+const PHRASES: [(usize, Phrase); 22] = [
     (3, Writer::command),
     (30, Writer::any),
     (20, Writer::type_some),
@@ -75,6 +96,11 @@ const PHRASES: [(usize, Phrase); 17] = [
     (8, Writer::quotation),
     (8, Writer::fill),
     (3, Writer::be_refused),
+    (0, Writer::join_by_deletion),
+    (0, Writer::join_by_cut),
+    (0, Writer::join_by_replace),
+    (0, Writer::carry_to_line),
+    (0, Writer::lengthen_line),
 ];
 
 impl Writer {
@@ -188,6 +214,13 @@ impl Writer {
         }
         for _ in 0..self.random.pick(&[1, 1, 2]) {
             self.press(Key::Recall);
+        }
+    }
+
+    /// Out of a quotation, where keys about the document are refused or go elsewhere; not always.
+    fn to_main(&mut self) {
+        if self.editor.mode == Mode::Quoted && self.random.percent(85) {
+            self.press(Key::Quote);
         }
     }
 

@@ -1,10 +1,12 @@
 pub mod Encoding
 pub mod Room
+pub mod LongLines
 pub mod Keeps
 pub mod Quarters
 pub mod Session
 pub mod Outcomes
 pub mod Sides
+pub mod Splices
 pub mod SideEdits
 pub mod Passages
 pub mod States
@@ -22,4 +24,5 @@ pub mod HandedOver
 pub mod Fitting
 pub mod FindReplace
 pub mod ReplaceRoom
+pub mod ReplaceLines
 pub mod Opening

@@ -2,6 +2,7 @@ pub mod Layouts
 pub mod Places
 pub mod Sessions
 pub mod Refusals
+pub mod LongLines
 pub mod Recall
 pub mod LinesCrossed
 pub mod LeftTexts

@@ -4,6 +4,7 @@ pub mod Places
 pub mod Passages
 pub mod Marks
 pub mod Plain
+pub mod LongLines
 pub mod Indents
 pub mod Keys
 pub mod Bytes

@@ -5,4 +5,5 @@ pub mod QuotationPins
 pub mod MarkPins
 pub mod CutPins
 pub mod IndentPins
+pub mod LinePins
 pub mod SessionPins

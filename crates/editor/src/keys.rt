@@ -3,6 +3,7 @@ use crate::Action;
 use crate::Edit;
 use crate::EditorReply;
 use crate::Key;
+use crate::LONGEST_LINE;
 use crate::Lengths;
 use crate::Mode;
 use crate::Place;
@@ -100,7 +101,7 @@ fn edit_key(e: Edit, n: Lengths, text: &mut [u8], recall: &mut [u8], side: &mut 
     let main = n.main;
     let quoted = n.quoted;
     match mode {
-        Mode::Main => lifted(mode, n, on_side(e, main, text, recall)),
+        Mode::Main => lifted(mode, n, on_side(LONGEST_LINE, e, main, text, recall)),
         Mode::Quoted => lifted(mode, n, edit_quotation(e, quoted, side)),
     }
 }

@@ -10,6 +10,7 @@ pub mod records;
 pub mod refusals;
 pub mod searches;
 pub mod sides;
+pub mod splices;
 pub mod stores;
 
 use gap::Direction;
@@ -82,6 +83,9 @@ pub enum Edit {
 // The length of a quarter of the side store.
 pub const QUARTER: usize = 256;
 
+// The longest line of a document that the reader takes.
+pub const LONGEST_LINE: usize = 1024;
+
 // The lengths of one side: a text left and right of its cursor, and both halves of its recall text.
 pub struct Sizes {
     pub l: usize,
@@ -118,9 +122,9 @@ pub struct Exchange {
     pub come: usize,
 }
 
-// What a key on one side replies: refused as full, or its report, and the sizes now.
+// What a key on one side replies: 0 or a refusal's number, its report, and the sizes now.
 pub struct SideReply {
-    pub full: bool,
+    pub code: usize,
     pub report: Report,
     pub sizes: Sizes,
 }

@@ -3,6 +3,7 @@ use crate::Action;
 use crate::EditorReply;
 use crate::Exchange;
 use crate::Key;
+use crate::LONGEST_LINE;
 use crate::Lengths;
 use crate::Marking;
 use crate::Mode;
@@ -20,6 +21,7 @@ ghost use mathlib.Core.Path.{_≡_};
 ghost use mathlib.Core.Bool.{true};
 ghost use Prim.Native.Nat.{_+_, _^_, _≤_, _<_};
 ghost use Rattle.editor.specs.declared.Key.the-variants.{Replace};
+ghost use Rattle.editor.specs.Rules.LongLines.{longestLine};
 ghost use Rattle.editor.specs.Rules.Marks.{markWithin};
 ghost use Rattle.editor.specs.Rules.Keys.{markedHere, cut, pasted, bounded};
 ghost use Rattle.editor.specs.Rules.Bytes.{quarter, holdingSizes};
@@ -38,7 +40,7 @@ pub fn mark_key(n: Lengths) -> EditorReply
 
 // CUT: a deletion of the bytes between cursor and mark, with the held text's store lent for the recall text's.
 pub fn cut_key(n: Lengths, text: &mut [u8], held: &mut [u8]) -> EditorReply
-    requires { ⌜ OnSide (holdingSizes n) (now text) (now held) ⌝ }
+    requires { ⌜ OnSide longestLine (holdingSizes n) (now text) (now held) ⌝ }
     requires { ⌜ markWithin (n .main .l + n .main .r) (n .mark) ≡ true ⌝ }
     ensures { λ r. ⌜ EditsHeld r n (λ T p. bounded T quarter (cut p)) (now (text .entry)) (now (held .entry)) (now (text .exit)) (now (held .exit)) ⌝ }
 {
@@ -47,26 +49,32 @@ pub fn cut_key(n: Lengths, text: &mut [u8], held: &mut [u8]) -> EditorReply
         return edited(RANG, n);
     };
     let sizes = holding_sizes(n);
-    let unmarked = marked_at(n, Marking::Unmarked);
     let l = sizes.l;
     if m <= l {
         return lifted_held(
-            unmarked,
-            delete_side(Direction::Left, l - m, 0, sizes, text, held),
+            n,
+            Marking::Unmarked,
+            delete_side(LONGEST_LINE, Direction::Left, l - m, 0, sizes, text, held),
         );
     }
     lifted_held(
-        unmarked,
-        delete_side(Direction::Right, m - l, 0, sizes, text, held),
+        n,
+        Marking::Unmarked,
+        delete_side(LONGEST_LINE, Direction::Right, m - l, 0, sizes, text, held),
     )
 }
 
 // PASTE: the held pair goes in as RECALL puts the recall pair in.
 pub fn paste_key(n: Lengths, text: &mut [u8], held: &[u8]) -> EditorReply
-    requires { ⌜ OnSide (holdingSizes n) (now text) (now held) ⌝ }
+    requires { ⌜ OnSide longestLine (holdingSizes n) (now text) (now held) ⌝ }
     ensures { λ r. ⌜ EditsHeld r n (λ T p. bounded T quarter (pasted p)) (now (text .entry)) (now (held .entry)) (now (text .exit)) (now (held .entry)) ⌝ }
 {
-    lifted_held(n, recall_side(holding_sizes(n), text, held))
+    let mark = n.mark;
+    lifted_held(
+        n,
+        mark,
+        recall_side(LONGEST_LINE, holding_sizes(n), text, held),
+    )
 }
 
 // ---- The mark through a change

@@ -24,17 +24,17 @@ ghost use Rattle.editor.specs.Rules.Bytes.{quarter, quarterOf};
 ghost use Rattle.editor.specs.Wording.Promise.{OnSide, EditsSide, editing, EditsQuotation, handed};
 
 // The quotation's quarter is lent as it stands, and its recall text goes through an array of its own, since two parts of one store
-// cannot be lent at once.
+// cannot be lent at once. No line can be longer than the quarter, so that this is no limit of lines.
 pub fn edit_quotation(e: Edit, n: Sizes, side: &mut [u8]) -> SideReply
     requires { ⌜ length (now side) ≡ 4 * quarter ⌝ }
-    requires { ⌜ OnSide n (quarterOf quarter 0 (now side)) (quarterOf quarter 1 (now side)) ⌝ }
-    ensures { λ t. ⌜ EditsSide t n (editing e) (quarterOf quarter 0 (now (side .entry))) (quarterOf quarter 1 (now (side .entry)))
+    requires { ⌜ OnSide quarter n (quarterOf quarter 0 (now side)) (quarterOf quarter 1 (now side)) ⌝ }
+    ensures { λ t. ⌜ EditsSide quarter t n (editing e) (quarterOf quarter 0 (now (side .entry))) (quarterOf quarter 1 (now (side .entry)))
         (quarterOf quarter 0 (now (side .exit))) (quarterOf quarter 1 (now (side .exit))) ⌝ }
     ensures { λ t. ⌜ drop (2 * quarter) (now (side .exit)) ≡ drop (2 * quarter) (now (side .entry)) ⌝ }
 {
     let mut own = [0u8; QUARTER];
     copy_front(&mut own, &side[QUARTER..2 * QUARTER]);
-    let t = on_side(e, n, &mut side[..QUARTER], &mut own);
+    let t = on_side(QUARTER, e, n, &mut side[..QUARTER], &mut own);
     copy_at(side, QUARTER, &own);
     t
 }

@@ -6,13 +6,12 @@ use crate::Mode;
 use crate::Report;
 use crate::SideReply;
 use crate::Sizes;
-use crate::refusals::FULL;
 use gap::Direction;
 ghost use mathlib.Core.Path.{_≡_};
 ghost use Prim.Native.Nat.{_+_, _^_, _≤_, _<_};
 ghost use Rattle.editor.specs.Rules.Plain.{went};
 ghost use Rattle.editor.specs.Rules.Bytes.{unedited, openingLengths, holdingSizes};
-ghost use Rattle.editor.specs.Wording.Promise.{roomOf, movedBy, fullReply, doneReply, replyOf, sizedIn, cleared};
+ghost use Rattle.editor.specs.Wording.Promise.{roomOf, movedBy, refusedReply, doneReply, replyOf, sizedIn, cleared};
 ghost use Rattle.editor.specs.Wording.Promise.{patternTaken, replacementTaken};
 ghost use Rattle.editor.specs.Wording.Marks.{markedAt, heldIn, heldReply};
 
@@ -45,12 +44,12 @@ pub fn went(n: usize, lines: usize) -> Report
 
 // ---- Replies
 
-// Refused as full: nothing moves.
-pub fn full(n: Sizes) -> SideReply
-    ensures { λ t. ⌜ t ≡ fullReply n ⌝ }
+// Refused: nothing moves.
+pub fn refused(code: usize, n: Sizes) -> SideReply
+    ensures { λ t. ⌜ t ≡ refusedReply code n ⌝ }
 {
     SideReply {
-        full: true,
+        code: code,
         report: QUIET,
         sizes: n,
     }
@@ -60,7 +59,7 @@ pub fn done(report: Report, m: Sizes) -> SideReply
     ensures { λ t. ⌜ t ≡ doneReply report m ⌝ }
 {
     SideReply {
-        full: false,
+        code: 0,
         report: report,
         sizes: m,
     }
@@ -91,9 +90,9 @@ pub fn edited(report: Report, n: Lengths) -> EditorReply
 pub fn lifted(mode: Mode, n: Lengths, t: SideReply) -> EditorReply
     ensures { λ r. ⌜ r ≡ replyOf mode n t ⌝ }
 {
-    let is_full = t.full;
-    if is_full {
-        return unedited(FULL, n);
+    let code = t.code;
+    if code != 0 {
+        return unedited(code, n);
     }
     let report = t.report;
     let sizes = t.sizes;
@@ -271,15 +270,15 @@ fn held_in(n: Lengths, sizes: Sizes) -> Lengths
     m
 }
 
-// A key on the document with the held pair in the place of its recall text, as a reply of the whole layer.
-pub fn lifted_held(n: Lengths, t: SideReply) -> EditorReply
-    ensures { λ r. ⌜ r ≡ heldReply n t ⌝ }
+// A key on the document with the held pair in the place of its recall text, as a reply of the whole layer: refused, or done with this mark.
+pub fn lifted_held(n: Lengths, mark: Marking, t: SideReply) -> EditorReply
+    ensures { λ r. ⌜ r ≡ heldReply n mark t ⌝ }
 {
-    let is_full = t.full;
-    if is_full {
-        return unedited(FULL, n);
+    let code = t.code;
+    if code != 0 {
+        return unedited(code, n);
     }
     let report = t.report;
     let sizes = t.sizes;
-    edited(report, held_in(n, sizes))
+    edited(report, held_in(marked_at(n, mark), sizes))
 }

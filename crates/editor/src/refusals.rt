@@ -12,3 +12,5 @@ pub const KEY: usize = 5;
 pub const FULL: usize = 6;
 
 pub const ROOM: usize = 7;
+
+pub const LINE: usize = 8;

@@ -1,5 +1,6 @@
 // FIND, UPFIND and REPLACE. Nothing is written before it is known that the key is accepted.
 use crate::EditorReply;
+use crate::LONGEST_LINE;
 use crate::Lengths;
 use crate::Mode;
 use crate::Passage;
@@ -16,8 +17,10 @@ use crate::records::pattern_taken;
 use crate::records::replacement_taken;
 use crate::records::unedited;
 use crate::refusals::FULL;
+use crate::refusals::LINE;
 use crate::sides::move_side;
 use gap::Direction;
+use gap::line_limits::runs_fit;
 use gap::runs::hold;
 use gap::texts::drop_right;
 use gap::texts::place_pair;
@@ -30,6 +33,7 @@ ghost use Rattle.editor.specs.Rules.Plain.{done};
 ghost use Rattle.editor.specs.Rules.Keys.{searched, found, substituted, replaced, bounded};
 ghost use Rattle.editor.specs.Rules.Bytes.{quarter};
 ghost use Rattle.editor.specs.Wording.Promise.{SoundUnheld, EditsUnheld, Searchable, EditsTexts, SubstitutesUnheld};
+ghost use Rattle.editor.specs.Wording.Promise.{Exchanges, ReadableExchanged};
 
 // A search with the stored pattern: to the nearest match, or the bell.
 fn search(way: Direction, n: Lengths, text: &mut [u8], side: &[u8]) -> EditorReply
@@ -63,7 +67,7 @@ pub fn find_key(way: Direction, n: Lengths, text: &mut [u8], side: &mut [u8]) ->
 }
 
 // The pattern right of the cursor is exchanged for the replacement and becomes the recall text; or, where it does not stand there,
-// the bell. The finished text is known to fit.
+// the bell. The finished text and its lines are known to fit.
 fn substitute(
     here: bool,
     n: Lengths,
@@ -109,7 +113,49 @@ fn exchange_fits(here: bool, size: usize, n: Lengths) -> bool
     n.xl + n.xr <= size - (main.l + main.r - n.pl)
 }
 
-// REPLACE: FULL is tested before anything is written; in QUOTED the quotation then becomes the replacement.
+// Where the pattern stands, no line of the document with the replacement in its place is too long. In QUOTED the quotation is the replacement
+// already.
+fn exchange_readable(here: bool, n: Lengths, text: &[u8], side: &[u8]) -> bool
+    requires { ⌜ Exchanges here n (now text) (now side) ⌝ }
+    ensures { λ ok. ⌜ ReadableExchanged ok n (now (text .entry)) (now (side .entry)) ⌝ }
+{
+    if !here {
+        return true;
+    }
+    let mode = n.mode;
+    let main = n.main;
+    let l = main.l;
+    let back = text.len() - (main.r - n.pl);
+    match mode {
+        Mode::Main => {
+            let pair = &side[3 * QUARTER..4 * QUARTER];
+            let x = n.xl;
+            let end = x + n.xr;
+            runs_fit(
+                LONGEST_LINE,
+                &text[..l],
+                &pair[..x],
+                &pair[x..end],
+                &text[back..],
+            )
+        }
+        Mode::Quoted => {
+            let quoted = n.quoted;
+            let own = &side[..QUARTER];
+            let x = quoted.l;
+            let y = QUARTER - quoted.r;
+            runs_fit(
+                LONGEST_LINE,
+                &text[..l],
+                &own[..x],
+                &own[y..],
+                &text[back..],
+            )
+        }
+    }
+}
+
+// REPLACE: FULL and then LINE are tested before anything is written; in QUOTED the quotation then becomes the replacement.
 pub fn replace_key(n: Lengths, text: &mut [u8], recall: &mut [u8], side: &mut [u8]) -> EditorReply
     requires { ⌜ SoundUnheld n (now text) (now recall) (now side) ⌝ }
     ensures { λ r. ⌜ EditsUnheld r n (λ T p. bounded T quarter (replaced p)) (now (text .entry)) (now (recall .entry)) (now (side .entry))
@@ -123,6 +169,9 @@ pub fn replace_key(n: Lengths, text: &mut [u8], recall: &mut [u8], side: &mut [u
     let m = replacement_taken(n);
     if !exchange_fits(here, text.len(), m) {
         return unedited(FULL, n);
+    }
+    if !exchange_readable(here, n, text, side) {
+        return unedited(LINE, n);
     }
     hand_quotation(mode, quoted, 3 * QUARTER, side);
     substitute(here, m, text, recall, side)

@@ -1,4 +1,5 @@
 // The four stores: their sizes, the session test without the window's part, and a text newly opened.
+use crate::LONGEST_LINE;
 use crate::Lengths;
 use crate::Marking;
 use crate::Mode;
@@ -6,6 +7,7 @@ use crate::QUARTER;
 use crate::Sizes;
 use crate::records::holding_sizes;
 use crate::records::opening_lengths;
+use gap::line_limits::sound_document;
 use gap::runs::clear;
 use gap::sound::sound_gap;
 use gap::sound::sound_pair;
@@ -66,7 +68,8 @@ pub fn editor_ok(n: Lengths, text: &[u8], recall: &[u8], held: &[u8], side: &[u8
     let quoted = n.quoted;
     let mode = n.mode;
     let mark = n.mark;
-    let document = sound_gap(text, main.l, main.r) & sound_pair(recall, main.rl, main.rr);
+    let document = sound_document(LONGEST_LINE, text, main.l, main.r)
+        & sound_pair(recall, main.rl, main.rr);
     let quotation = sound_gap(&side[..QUARTER], quoted.l, quoted.r)
         & sound_pair(&side[QUARTER..2 * QUARTER], quoted.rl, quoted.rr);
     let others = sound_pair(&side[2 * QUARTER..3 * QUARTER], n.pl, 0)

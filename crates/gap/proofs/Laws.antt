@@ -21,3 +21,7 @@ pub mod Moves
 pub mod Decimals
 pub mod Fields
 pub mod Writers
+pub mod LineLimits
+pub mod LineLimitScans
+pub mod LongLines
+pub mod LineTests

@@ -3,4 +3,5 @@ pub mod DocProperties
 pub mod PlaceTheorem
 pub mod Flatten
 pub mod Decimals
+pub mod LineLimits
 pub mod Pins

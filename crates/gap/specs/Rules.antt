@@ -10,3 +10,4 @@ pub mod Indents
 pub mod Layout
 pub mod Decimal
 pub mod Fields
+pub mod LineLimits

@@ -3,6 +3,7 @@ pub mod compare;
 pub mod decimals;
 pub mod fields;
 pub mod indents;
+pub mod line_limits;
 pub mod lines;
 pub mod numbers;
 pub mod runs;

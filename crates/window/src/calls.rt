@@ -12,9 +12,11 @@ use crate::cursor::newlines_now;
 use crate::painter::refresh;
 use editor::EditorReply;
 use editor::Key;
+use editor::LONGEST_LINE;
 use editor::keys::press_session;
 use editor::records::QUIET;
 use editor::records::opening_lengths;
+use editor::refusals::LINE;
 use editor::refusals::LONG;
 use editor::refusals::SESSION;
 use editor::refusals::SIZE;
@@ -23,6 +25,7 @@ use editor::stores::editor_ok;
 use editor::stores::open_stores;
 use editor::stores::sized_stores;
 use gap::Search;
+use gap::line_limits::long_line;
 use gap::sound::bad_byte;
 ghost use mathlib.Core.Path.{_≡_};
 ghost use mathlib.Core.Bool.{true};
@@ -166,7 +169,7 @@ fn open_sound(
     }
 }
 
-// The opening call: SIZE, LONG, TEXT, or the text opened. n is the stated length of the text.
+// The opening call: SIZE, LONG, TEXT, LINE, or the text opened. n is the stated length of the text.
 pub fn open(
     n: usize,
     h: usize,
@@ -186,10 +189,13 @@ pub fn open(
     if text.len() < n {
         return unopened(LONG, 0);
     }
-    let Search::Reached(i) = bad_byte(&text[..n]) else {
-        return open_sound(n, h, w, text, recall, held, side, screen);
-    };
-    unopened(TEXT, i)
+    match bad_byte(&text[..n]) {
+        Search::Reached(i) => unopened(TEXT, i),
+        Search::Nowhere => match long_line(LONGEST_LINE, &text[..n]) {
+            Search::Reached(i) => unopened(LINE, i),
+            Search::Nowhere => open_sound(n, h, w, text, recall, held, side, screen),
+        },
+    }
 }
 
 // ---- A key
@@ -230,7 +236,7 @@ fn show(
     }
 }
 
-// The key call: SIZE, SESSION, KEY, FULL, or done.
+// The key call: SIZE, SESSION, KEY, FULL, LINE, or done.
 pub fn press(
     s: Session,
     k: Key,

@@ -43,6 +43,41 @@ pub fn current_line(s: &[u8]) -> &[u8] {
     &s[last_newline(s).map_or(0, |i| i + 1)..]
 }
 
+/// How long the first line of a text is.
+pub fn first_line(s: &[u8]) -> usize {
+    first_newline(s).unwrap_or(s.len())
+}
+
+/// No line of a text is longer than the limit, the first counted with the bytes of it that stand before the text. Lines are not walked one
+/// by one: among as many bytes as the line may still have, and one more, the last newline is looked for from the back.
+pub fn lines_fit(limit: usize, before: usize, s: &[u8]) -> bool {
+    let Some(mut room) = limit.checked_sub(before) else {
+        return false;
+    };
+    let mut rest = s;
+    while rest.len() > room {
+        let Some(i) = last_newline(&rest[..=room]) else {
+            return false;
+        };
+        rest = &rest[i + 1..];
+        room = limit;
+    }
+    true
+}
+
+/// The same of x and y put between two texts that have no longer line: these are not read further than the lines that are joined.
+pub fn runs_fit(limit: usize, left: &[u8], x: &[u8], y: &[u8], right: &[u8]) -> bool {
+    let mut before = current_line(left).len();
+    for run in [x, y] {
+        if !lines_fit(limit, before, run) {
+            return false;
+        }
+        let line = current_line(run).len();
+        before = if line < run.len() { line } else { before + line };
+    }
+    before + first_line(right) <= limit
+}
+
 /// How many spaces a text begins with: few as a rule, so they are looked at one by one.
 pub fn leading_spaces(s: &[u8]) -> usize {
     s.iter().position(|&b| b != b' ').unwrap_or(s.len())

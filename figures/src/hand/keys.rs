@@ -1,11 +1,14 @@
 //! Keys on the document and the quotation, without a screen.
 
-use super::bytes::{allowed, current_line, leading_spaces, newlines};
+use super::bytes::{allowed, current_line, leading_spaces, newlines, runs_fit};
 use super::places::{distance_left, distance_right, find_left, find_right, Direction, Place};
 use super::texts::Side;
 use crate::chidukwore::{self, Record, NO_MARK};
 
 pub const QUARTER: usize = 256;
+
+/// The longest line of a document that its reader takes.
+pub const LONGEST_LINE: usize = 1_024;
 
 #[derive(Clone, Copy)]
 pub enum Action {
@@ -43,8 +46,13 @@ pub struct Went {
 /// What a key reports that found no place or match.
 const RANG: Went = Went { steps: 0, lines: 0, bell: true };
 
-/// The finished text would not fit its store.
-pub struct Full;
+/// Why a key that is one is not carried out.
+pub enum Refusal {
+    /// The finished text would not fit its store.
+    Full,
+    /// The finished document would have a line that its reader does not take.
+    Line,
+}
 
 fn direction(number: usize) -> Option<Direction> {
     [Direction::Left, Direction::Right].get(number).copied()
@@ -76,7 +84,7 @@ pub fn sound_key(chidukwore::Key(kind, a, b, c): chidukwore::Key, mode: usize) -
     }
 }
 
-/// Presses a key on a session. With FULL nothing has changed.
+/// Presses a key on a session. Refused, nothing has changed.
 pub fn press(
     record: &mut Record,
     key: Key,
@@ -84,7 +92,7 @@ pub fn press(
     recall: &mut [u8],
     held: &mut [u8],
     side: &mut [u8],
-) -> Result<Went, Full> {
+) -> Result<Went, Refusal> {
     match key {
         Key::Quote => {
             side[..2 * QUARTER].fill(0);
@@ -104,7 +112,7 @@ pub fn press(
         Key::Edit(edit) if record.mode == 1 => {
             let (text, recall) = side[..2 * QUARTER].split_at_mut(QUARTER);
             let Record { ql: l, qr: r, qrl: rl, qrr: rr, .. } = *record;
-            let mut quotation = Side { text, recall, l, r, rl, rr };
+            let mut quotation = Side { text, recall, l, r, rl, rr, longest: QUARTER };
             let went = on_side(&mut quotation, edit)?;
             (record.ql, record.qr, record.qrl, record.qrr) = (quotation.l, quotation.r, quotation.rl, quotation.rr);
             Ok(went)
@@ -114,7 +122,7 @@ pub fn press(
             record.mark = record.l;
             Ok(Went::default())
         }
-        Key::Cut => Ok(cut(record, text, held)),
+        Key::Cut => cut(record, text, held),
         Key::Paste => followed(record, |record| holding(record, text, held, |document| on_side(document, Edit::Recall))),
     }
 }
@@ -122,7 +130,7 @@ pub fn press(
 /// Does something to the document and keeps its lengths.
 fn on_document<R>(record: &mut Record, text: &mut [u8], recall: &mut [u8], change: impl FnOnce(&mut Side) -> R) -> R {
     let Record { l, r, rl, rr, .. } = *record;
-    let mut document = Side { text, recall, l, r, rl, rr };
+    let mut document = Side { text, recall, l, r, rl, rr, longest: LONGEST_LINE };
     let result = change(&mut document);
     (record.l, record.r, record.rl, record.rr) = (document.l, document.r, document.rl, document.rr);
     result
@@ -131,7 +139,7 @@ fn on_document<R>(record: &mut Record, text: &mut [u8], recall: &mut [u8], chang
 /// The same with the held text in the place of the recall text.
 fn holding<R>(record: &mut Record, text: &mut [u8], held: &mut [u8], change: impl FnOnce(&mut Side) -> R) -> R {
     let Record { l, r, held_left, held_right, .. } = *record;
-    let mut document = Side { text, recall: held, l, r, rl: held_left, rr: held_right };
+    let mut document = Side { text, recall: held, l, r, rl: held_left, rr: held_right, longest: LONGEST_LINE };
     let result = change(&mut document);
     (record.l, record.r, record.held_left, record.held_right) = (document.l, document.r, document.rl, document.rr);
     result
@@ -160,30 +168,38 @@ fn followed<R>(record: &mut Record, change: impl FnOnce(&mut Record) -> R) -> R 
 }
 
 /// CUT is a deletion as far as the mark, into the held text.
-fn cut(record: &mut Record, text: &mut [u8], held: &mut [u8]) -> Went {
+fn cut(record: &mut Record, text: &mut [u8], held: &mut [u8]) -> Result<Went, Refusal> {
     let Record { l, mark, .. } = *record;
     if mark == NO_MARK {
-        return RANG;
+        return Ok(RANG);
     }
     let steps = l.abs_diff(mark);
-    holding(record, text, held, |document| if mark < l { document.delete_left(steps) } else { document.delete_right(steps) });
+    let way = if mark < l { Direction::Left } else { Direction::Right };
+    holding(record, text, held, |document| delete(document, way, steps))?;
     record.mark = NO_MARK;
-    Went { steps, lines: 0, bell: false }
+    Ok(Went { steps, lines: 0, bell: false })
 }
 
-fn on_side(side: &mut Side, edit: Edit) -> Result<Went, Full> {
+fn on_side(side: &mut Side, edit: Edit) -> Result<Went, Refusal> {
     match edit {
         Edit::Insert(b) => {
             if side.room() == 0 {
-                return Err(Full);
+                return Err(Refusal::Full);
+            }
+            if b != b'\n' && !side.line_fits(1) {
+                return Err(Refusal::Line);
             }
             side.insert(b);
             Ok(Went::default())
         }
-        Edit::Function(action, way, place) => Ok(function(side, action, way, place)),
+        Edit::Function(action, way, place) => function(side, action, way, place),
         Edit::Recall => {
-            if side.room() < side.rl + side.rr {
-                return Err(Full);
+            let (x, y) = (side.rl, side.rr);
+            if side.room() < x + y {
+                return Err(Refusal::Full);
+            }
+            if !side.fits_with(0, 0, &side.recall[..x], &side.recall[x..x + y]) {
+                return Err(Refusal::Line);
             }
             side.place_recall();
             Ok(Went::default())
@@ -199,31 +215,50 @@ fn on_side(side: &mut Side, edit: Edit) -> Result<Went, Full> {
     }
 }
 
-/// A byte with k spaces behind it goes in, all of it or nothing.
-fn spaced(side: &mut Side, b: u8, k: usize) -> Result<Went, Full> {
+/// A byte with k spaces behind it goes in, all of it or nothing. Behind a newline no more spaces come than its line had before the cursor,
+/// so that no line becomes longer.
+fn spaced(side: &mut Side, b: u8, k: usize) -> Result<Went, Refusal> {
     if side.room() <= k {
-        return Err(Full);
+        return Err(Refusal::Full);
+    }
+    if b != b'\n' && !side.line_fits(1 + k) {
+        return Err(Refusal::Line);
     }
     side.insert_spaced(b, k);
     Ok(Went { steps: 1 + k, ..Went::default() })
 }
 
-fn function(side: &mut Side, action: Action, way: Direction, place: Place) -> Went {
+fn function(side: &mut Side, action: Action, way: Direction, place: Place) -> Result<Went, Refusal> {
     let distance = match way {
         Direction::Left => distance_left(place, side.left()),
         Direction::Right => distance_right(place, side.right()),
     };
     let Some(d) = distance else {
-        return RANG;
+        return Ok(RANG);
     };
     let lines = lines_passed(side, way, d);
     match (action, way) {
         (Action::Move, Direction::Left) => side.move_left(d),
         (Action::Move, Direction::Right) => side.move_right(d),
-        (Action::Delete, Direction::Left) => side.delete_left(d),
-        (Action::Delete, Direction::Right) => side.delete_right(d),
+        (Action::Delete, way) => delete(side, way, d)?,
     }
-    Went { steps: d, lines, bell: false }
+    Ok(Went { steps: d, lines, bell: false })
+}
+
+/// The d bytes that a move would cross go over into the recall text, if the line where the others meet is not too long.
+fn delete(side: &mut Side, way: Direction, d: usize) -> Result<(), Refusal> {
+    let (a, b) = match way {
+        Direction::Left => (d, 0),
+        Direction::Right => (0, d),
+    };
+    if !side.fits_with(a, b, &[], &[]) {
+        return Err(Refusal::Line);
+    }
+    match way {
+        Direction::Left => side.delete_left(d),
+        Direction::Right => side.delete_right(d),
+    }
+    Ok(())
 }
 
 /// The newlines among the d bytes that a move would cross.
@@ -263,12 +298,18 @@ fn hand_over(record: &mut Record, at: usize, side: &mut [u8]) {
     (record.ql, record.qr, record.qrl, record.qrr, record.mode) = (0, 0, 0, 0, 0);
 }
 
-fn replace(record: &mut Record, text: &mut [u8], recall: &mut [u8], side: &mut [u8]) -> Result<Went, Full> {
+fn replace(record: &mut Record, text: &mut [u8], recall: &mut [u8], side: &mut [u8]) -> Result<Went, Refusal> {
     let Record { l, r, pl, .. } = *record;
     let (x, y) = if record.mode == 1 { (record.ql, record.qr) } else { (record.xl, record.xr) };
-    let here = text[text.len() - r..].starts_with(&side[2 * QUARTER..][..pl]);
+    let right = &text[text.len() - r..];
+    let here = right.starts_with(&side[2 * QUARTER..][..pl]);
     if here && text.len() < l + r - pl + x + y {
-        return Err(Full);
+        return Err(Refusal::Full);
+    }
+    let halves =
+        if record.mode == 1 { (&side[..x], &side[QUARTER - y..QUARTER]) } else { side[3 * QUARTER..][..x + y].split_at(x) };
+    if here && !runs_fit(LONGEST_LINE, &text[..l], halves.0, halves.1, &right[pl..]) {
+        return Err(Refusal::Line);
     }
     if record.mode == 1 {
         hand_over(record, 3 * QUARTER, side);

@@ -9,14 +9,15 @@ mod texts;
 mod window;
 
 use crate::chidukwore::{Answer, Key, Record, Reply, Stores, NO_MARK};
-use bytes::{all_allowed, all_free};
-use keys::{press, sound_key, Full, Went, QUARTER};
+use bytes::{all_allowed, all_free, current_line, lines_fit};
+use keys::{press, sound_key, Refusal, Went, LONGEST_LINE, QUARTER};
 use window::{cursor, follow, paint, visible};
 
 const SIZE: usize = 1;
 const SESSION: usize = 4;
 const KEY: usize = 5;
 const FULL: usize = 6;
+const LINE: usize = 8;
 
 /// Presses a key. Not inlined, as the proved core's call is none that could be.
 #[inline(never)]
@@ -35,7 +36,8 @@ pub fn key(record: Record, key: Key, lent: Stores) -> Reply {
     let Stores { text, recall, held, side, screen } = lent;
     let Went { steps, lines, bell } = match press(&mut now, key, text, recall, held, side) {
         Ok(went) => went,
-        Err(Full) => return refused(FULL),
+        Err(Refusal::Full) => return refused(FULL),
+        Err(Refusal::Line) => return refused(LINE),
     };
     let spot = cursor(&now, text, side);
     follow(&mut now, &spot);
@@ -67,7 +69,13 @@ fn sound_pair(store: &[u8], x: usize, y: usize) -> bool {
     x.checked_add(y).is_some_and(|n| sound(store, n, 0))
 }
 
-/// The mark is tested once l + r is known to be a length.
+/// No line of the document is longer than the reader takes, the one at the cursor on both sides of the gap.
+fn readable(text: &[u8], l: usize, r: usize) -> bool {
+    let (left, right) = (&text[..l], &text[text.len() - r..]);
+    lines_fit(LONGEST_LINE, 0, left) && lines_fit(LONGEST_LINE, current_line(left).len(), right)
+}
+
+/// Lines and mark are tested once l + r is known to be a length.
 fn is_session(n: &Record, Stores { text, recall, held, side, .. }: &Stores) -> bool {
     let quarter = |i: usize| &side[i * QUARTER..(i + 1) * QUARTER];
     n.mode <= 1
@@ -76,6 +84,7 @@ fn is_session(n: &Record, Stores { text, recall, held, side, .. }: &Stores) -> b
         && (n.qrl == 0 || n.qrr == 0)
         && (n.held_left == 0 || n.held_right == 0)
         && sound(text, n.l, n.r)
+        && readable(text, n.l, n.r)
         && (n.mark == NO_MARK || n.mark <= n.l + n.r)
         && sound_pair(recall, n.rl, n.rr)
         && sound_pair(held, n.held_left, n.held_right)

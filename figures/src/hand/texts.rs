@@ -1,5 +1,7 @@
 //! A text in a gap store with its recall text in a pair store: the document's side or the quotation's, or the document with the held text.
 
+use super::bytes::{current_line, first_line, runs_fit};
+
 pub struct Side<'a> {
     pub text: &'a mut [u8],
     pub recall: &'a mut [u8],
@@ -7,6 +9,8 @@ pub struct Side<'a> {
     pub r: usize,
     pub rl: usize,
     pub rr: usize,
+    /// No line of the text is longer. A quotation has no limit; none of its lines is longer than its store.
+    pub longest: usize,
 }
 
 impl Side<'_> {
@@ -25,6 +29,16 @@ impl Side<'_> {
 
     pub fn room(&self) -> usize {
         self.text.len() - self.l - self.r
+    }
+
+    /// The line at the cursor would fit with so many bytes more.
+    pub fn line_fits(&self, more: usize) -> bool {
+        current_line(self.left()).len() + more + first_line(self.right()) <= self.longest
+    }
+
+    /// No line would be too long without the a bytes left of the cursor and the b bytes right of it, and with x and y in their place.
+    pub fn fits_with(&self, a: usize, b: usize, x: &[u8], y: &[u8]) -> bool {
+        runs_fit(self.longest, &self.left()[..self.l - a], x, y, &self.right()[b..])
     }
 
     /// The d bytes left of the cursor cross the gap. Only what they leave and do not cover again is cleared.

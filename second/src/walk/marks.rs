@@ -2,7 +2,7 @@
 
 use super::Writer;
 use crate::generate::{text, DIRECTIONS, PLACES};
-use crate::plain::{Action, Direction, Key, Mode, Place};
+use crate::plain::{Action, Direction, Key, Place};
 
 fn back(direction: Direction) -> Direction {
     match direction {
@@ -12,13 +12,6 @@ fn back(direction: Direction) -> Direction {
 }
 
 impl Writer {
-    /// Out of a quotation, where the three keys are refused; not always.
-    fn to_main(&mut self) {
-        if self.editor.mode == Mode::Quoted && self.random.percent(85) {
-            self.press(Key::Quote);
-        }
-    }
-
     /// The mark, then changes at it and a few bytes from it, and deletions that end at it or go on over it.
     pub(super) fn change_at_mark(&mut self) {
         self.to_main();

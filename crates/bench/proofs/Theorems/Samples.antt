@@ -9,6 +9,8 @@ use Rattle.gap.specs.Rules.Lines.{newlines, sinceAfter, lines}
 use Rattle.gap.specs.Rules.Layout.{gapped, paired, ungap, unpair, soundGap, soundPair}
 use Rattle.gap.specs.Rules.Decimal.{valueAfter, isNumber, numberOf, digitsIn, decimal}
 use Rattle.gap.specs.Rules.Fields.{lineOf, lineAt, endAt, nextAt, lineNumber, fieldOf, headerAt, entry}
+use Rattle.gap.specs.Rules.LineLimits.{noneLonger, linesFit, longLine}
+use Rattle.editor.specs.Rules.LongLines.{longestLine}
 use Rattle.editor.specs.Rules.Passages.{withLines, passageTo}
 use Rattle.editor.specs.Rules.Places.{lineBeginning, lineEnding, word, documentEnd, isAt}
 use Rattle.editor.specs.Rules.Marks.{markThrough}
@@ -29,9 +31,9 @@ pub samples-printed : printed samples ≡ true
 unfolding every sameBytes begins part patch zeros counted bytes move delete times passed removed splice nearest distance withLines passageTo
     newlines sinceAfter lines gapped paired ungap unpair soundGap soundPair valueAfter isNumber numberOf digitsIn decimal lineBeginning
     lineEnding word documentEnd isAt soundKey inserted carried function recalled onSide quoted withPattern searched found withReplacement
-    exchanged substituted replaced markThrough markedHere cutTo pasted acted changeOf pressed fits bounded key quarter sized plainOf lengthsOf
-    storesOf editorOk virtualIn rowCells joined window visible policy firstRow lastRow tabled isSession openedText opened shown finished keyed
-    combinations functionNamed indentNamed markNamed keyNamed
-    lineOf lineAt endAt nextAt lineNumber fieldOf headerAt textThere headingOf keyOf readingAt entry rowsOf acceptedBlock refusedBlock block
-    scriptLine beginning openingTurn pressedTurn nextTurn turns fresh output printed
+    exchanged substituted replaced markThrough markedHere cutTo pasted acted changeOf pressed fits bounded key quarter sized plainOf
+    lengthsOf storesOf editorOk linesFit noneLonger longestLine virtualIn rowCells joined window visible policy firstRow lastRow tabled
+    isSession openedText opened longLine lineAt lineOf shown finished keyed combinations functionNamed indentNamed markNamed keyNamed endAt
+    nextAt lineNumber fieldOf headerAt textThere headingOf keyOf readingAt entry rowsOf acceptedBlock refusedBlock block scriptLine
+    beginning openingTurn pressedTurn nextTurn turns fresh output printed
 samples-printed = refl

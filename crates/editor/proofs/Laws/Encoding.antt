@@ -5,11 +5,14 @@ use mathlib.Core.List.{List, _++_}
 use Prim.Native.Nat.{ℕ, _+_, _≤_}
 use native.Mathlib.Omega.{arith}
 use lib.ListN.{length}
+use Rattle.gap.specs.Rules.Doc.{content}
+use Rattle.gap.specs.Rules.LineLimits.{linesFit}
 use Rattle.gap.specs.Rules.Layout.{gapped, paired, ungap, unpair, soundGap, soundPair}
 use Rattle.gap.proofs.Laws.Layout.{Encodes, length-gapped, length-paired, ungap-gapped, unpair-paired}
 use Rattle.gap.proofs.Laws.Layout.{gap-sound, pair-sound, sound-gap, sound-pair}
 use Rattle.editor.specs.Words.{Sizes, Lengths}
 use Rattle.editor.specs.Rules.Plain.{Side, Plain, holding}
+use Rattle.editor.specs.Rules.LongLines.{longestLine}
 use Rattle.editor.specs.Rules.Marks.{markWithin}
 use Rattle.editor.specs.Rules.Bytes.{Stores, sized, quarterOf, alone, sizesOf, plainOf, lengthsOf, storesOf, editorOk, oneHalf}
 use Rattle.editor.specs.Rules.Bytes.{unquoted, holdingSizes, SoundTexts, Encoded}
@@ -44,6 +47,7 @@ module _ (T Q : ℕ) (p : Plain) (s : SoundTexts T Q p) where
   unfolding lengthsOf storesOf
   encoded-ok mark = passed-ok Q (lengthsOf p) (storesOf T Q p) record {
     text = gap-sound T (p .main .text) (s .text);
+    lines = ap (λ d. linesFit longestLine (content d)) (ungap-gapped T (p .main .text) (s .text .fits)) ∙ s .lines;
     recall = pair-sound T (p .main .recall) (s .recall);
     quotation = ap (soundGap _ _) (quarter 0 (omega arith)) ∙ gap-sound Q (p .quoted .text) (s .quotation);
     itsRecall = ap (soundPair _ _) (quarter 1 (omega arith)) ∙ pair-sound Q (p .quoted .recall) (s .itsRecall);
@@ -113,6 +117,7 @@ session-encoded Q n b size ok =
           itsHalf = ap oneHalf quoted ∙ t .itsHalf;
           heldHalf = ap oneHalf holds ∙ t .heldHalf;
           mode = ap (unquoted (n .mode)) quoted ∙ t .mode;
+          lines = t .lines;
         };
         mark = ap (λ s. markWithin (s .l + s .r) (n .mark)) main ∙ t .mark;
       };

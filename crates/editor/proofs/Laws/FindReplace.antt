@@ -9,7 +9,8 @@ use borrow.Author.Tests.{leb-true}
 use lib.ListN.{length, take, drop, length-append, length-take, length-drop}
 use lib.Seq.{take-take}
 use Rattle.gap.specs.Rules.Sequence.{part, zeros}
-use Rattle.gap.specs.Rules.Doc.{Doc, empty, splice}
+use Rattle.gap.specs.Rules.Doc.{Doc, empty, content, splice}
+use Rattle.gap.specs.Rules.LineLimits.{linesFit}
 use Rattle.gap.specs.Rules.Layout.{gapped, paired, ungap, unpair, IsGap}
 use Rattle.gap.proofs.Laws.Tests.{and-left, cond-true, cond-false}
 use Rattle.gap.proofs.Laws.Compared.{begins-fits}
@@ -21,10 +22,12 @@ use Rattle.editor.specs.declared.SideReply.{SideReply}
 use Rattle.editor.specs.declared.EditorReply.{EditorReply}
 use Rattle.editor.specs.Rules.Plain.{Side, Plain, quiet, rang, Did, reporting, within, done}
 use Rattle.editor.specs.Rules.Passages.{passageTo}
+use Rattle.editor.specs.Rules.LongLines.{longestLine, readable}
 use Rattle.editor.specs.Rules.Keys.{carried, withSide, matches, searched, exchanged, substituted, fits, bounded}
 use Rattle.editor.specs.Rules.Bytes.{Stores, sizesOf, plainOf, editedTo, SoundTexts}
 use Rattle.editor.specs.Wording.Promise.{Sound, stores, doneReply, written, EditsSide, replyOf}
 use Rattle.editor.proofs.Laws.States.{sound-fits, searched-sound}
+use Rattle.editor.proofs.Laws.Outcomes.{bounded-done}
 use Rattle.editor.proofs.Laws.SideEdits.{landed, not-did}
 use Rattle.editor.proofs.Laws.Replies.{on-side, landed as all-landed}
 use Rattle.editor.proofs.Laws.Encoding.{session-encoded}
@@ -91,15 +94,14 @@ module _ (Q : ℕ) (n : Lengths) (b : Stores) (sound : Sound Q n b) where
   unfolding plainOf part
   replacement-lent = let e : 4 * Q - 3 * Q ≡ Q = omega arith in rw e
 
-  -- A key on the document's side that has room is done.
+  -- A key on the document's side that has room and leaves no line too long is done.
   main-done : (did : Did Side) (whole : Did Plain) → within (λ s. withSide Main s p) did ≡ whole → fits T Q (whole .state) ≡ true
-      → (t : SideReply) (reply : EditorReply) (text recall : List ℕ) → reply ≡ replyOf Main n t
-      → record { reply = t; text = text; recall = recall } ≡ written (n .main) (b .text) (b .recall) did
+      → readable longestLine (whole .state) ≡ true → (t : SideReply) (reply : EditorReply) (text recall : List ℕ) → reply ≡ replyOf Main n t
+      → record { reply = t; text = text; recall = recall } ≡ written longestLine (n .main) (b .text) (b .recall) did
       → record { reply = reply; stores = stores text recall (b .held) (b .side) } ≡ editedTo Q n b (done whole)
-  unfolding bounded
-  main-done did whole same room t reply text recall e turns =
+  main-done did whole same room lines t reply text recall e turns =
       (λ i. record { reply = e i; stores = stores text recall (b .held) (b .side) }) ∙ all-landed Q n b sound Main did t text recall turns
-      ∙ ap (λ did. editedTo Q n b (bounded T Q did)) same ∙ ap (editedTo Q n b) (cond-true _ _ room)
+      ∙ ap (λ did. editedTo Q n b (bounded T Q did)) same ∙ ap (editedTo Q n b) (bounded-done T Q whole room lines)
 
   -- ---- The search
 
@@ -111,12 +113,12 @@ module _ (Q : ℕ) (n : Lengths) (b : Stores) (sound : Sound Q n b) where
     found-as = rw (← told, is, pattern-lent)
 
     pub search-done : (t : SideReply) (reply : EditorReply) (text recall : List ℕ) → reply ≡ replyOf Main n t
-        → EditsSide t (n .main) (carried Move way found) (b .text) (b .recall) text recall
+        → EditsSide longestLine t (n .main) (carried Move way found) (b .text) (b .recall) text recall
         → record { reply = reply; stores = stores text recall (b .held) (b .side) } ≡ editedTo Q n b (done (searched way p))
     unfolding plainOf
     search-done t reply text recall e turns =
-        main-done (carried Move way found (p .main)) (searched way p) found-as (sound-fits T Q _ (searched-sound T Q way p sound-held))
-        t reply text recall e turns
+        let after = searched-sound T Q way p sound-held in
+        main-done (carried Move way found (p .main)) (searched way p) found-as (sound-fits T Q _ after) (after .lines) t reply text recall e turns
 
   -- ---- The substitution
 
@@ -131,7 +133,8 @@ module _ (Q : ℕ) (n : Lengths) (b : Stores) (sound : Sound Q n b) where
   substitute-rings no-match {reply} e said =
       let same : reporting rang p ≡ substituted p = sym (cond-false _ _ no-match) in
       let room = ap (λ did. fits T Q (did .state)) (sym same) ∙ sound-fits T Q p sound-held in
-      main-done (reporting rang (p .main)) (substituted p) same room (doneReply rang (n .main)) reply (b .text) (b .recall)
+      let lines = ap (λ did. readable longestLine (did .state)) (sym same) ∙ sound-held .lines in
+      main-done (reporting rang (p .main)) (substituted p) same room lines (doneReply rang (n .main)) reply (b .text) (b .recall)
       (e ∙ λ i. record { code = 0; report = said i; lengths = n })
       (not-did (on-side Q n b sound Main) refl refl)
 
@@ -167,7 +170,8 @@ module _ (Q : ℕ) (n : Lengths) (b : Stores) (sound : Sound Q n b) where
   unfolding exchanged
   exchanged-sizes = λ i. record { l = sym exchanged-left i; r = sym exchanged-right i; rl = 0; rr = sym (held .pattern) i }
 
-  module _ (match : matches (p .pattern) (p .main .text) ≡ true) (room : fits T Q (substituted p .state) ≡ true) where
+  module _ (match : matches (p .pattern) (p .main .text) ≡ true) (room : fits T Q (substituted p .state) ≡ true)
+      (lines : readable longestLine (substituted p .state) ≡ true) where
     exchanged-as : reporting quiet (withSide Main (exchanged p) p) ≡ substituted p
     unfolding substituted
     exchanged-as = sym (cond-true _ _ match)
@@ -176,6 +180,9 @@ module _ (Q : ℕ) (n : Lengths) (b : Stores) (sound : Sound Q n b) where
     unfolding fits
     exchanged-fits =
         rw (← length-append) (leb-true _ _ (and-left _ _ (ap (λ did. fits T Q (did .state)) exchanged-as ∙ room)))
+
+    exchanged-lines : linesFit longestLine (content (exchanged p .text)) ≡ true
+    exchanged-lines = ap (λ did. readable longestLine (did .state)) exchanged-as ∙ lines
 
     pub exchangeable : Exchangeable n T
     exchangeable = record { stands = pattern-stands match; room = rw (exchanged-left, exchanged-right) at exchanged-fits }
@@ -188,6 +195,6 @@ module _ (Q : ℕ) (n : Lengths) (b : Stores) (sound : Sound Q n b) where
         → {t : SideReply} {report : Report} → reply ≡ replyOf Main n t → t ≡ doneReply report (exchangedBy n) → report ≡ quiet
         → record { reply = reply; stores = stores text recall (b .held) (b .side) } ≡ editedTo Q n b (done (substituted p))
     substitute-done dropped text recall reply less e f lifted answer said =
-        main-done (reporting quiet (exchanged p)) (substituted p) exchanged-as room _ reply text recall lifted
-        (landed (n .main) (b .text) (b .recall) (reporting quiet (exchanged p)) answer said exchanged-fits exchanged-sizes
+        main-done (reporting quiet (exchanged p)) (substituted p) exchanged-as room lines _ reply text recall lifted
+        (landed longestLine (n .main) (b .text) (b .recall) (reporting quiet (exchanged p)) answer said exchanged-fits exchanged-lines exchanged-sizes
         (e ∙ replacement-placed dropped less) (f ∙ pattern-recalled))

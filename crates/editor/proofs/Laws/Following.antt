@@ -14,17 +14,20 @@ use Rattle.gap.specs.Rules.Doc.{Doc}
 use Rattle.editor.specs.Words.{Direction, Left, Right, Move, Delete, Mode, Main, Quoted, Marking, Unmarked, At, Lengths, Exchange}
 use Rattle.editor.specs.Words.{Key, Insert, Function, Recall, Quote, Find, Replace, Mark, Cut, Paste, Newline, Tab}
 use Rattle.editor.specs.declared.EditorReply.{EditorReply}
-use Rattle.editor.specs.Rules.Refusals.{FULL}
-use Rattle.editor.specs.Rules.Plain.{Plain, Did, Outcome, refused, done}
+use Rattle.editor.specs.Rules.Refusals.{FULL, LINE}
+use Rattle.editor.specs.Rules.LongLines.{longestLine, readable}
+use Rattle.editor.specs.Rules.Plain.{Plain, Did, refused, done}
 use Rattle.editor.specs.Rules.Marks.{Change, unchanged, putting, taking, markThrough, markChanged, markWithin}
 use Rattle.editor.specs.Rules.Indents.{leftward, insertedRun, indentedLine, newlined, spacesToTab, tabbed}
 use Rattle.editor.specs.Rules.Keys.{soundKey, sideOf, onSide, ofDocument, changeOf, cutTo, acted, pressed, fits, bounded, key}
 use Rattle.editor.specs.Rules.Bytes.{Stores, Edited, plainOf, lengthsOf, storesOf, editedTo, SoundTexts, Encoded}
 use Rattle.editor.specs.Wording.Promise.{Sound}
-use Rattle.editor.specs.Wording.Marks.{nothing, coming, going, inDocument, exchangeOf, cuts, markExchanged, markOf, markedAt, followedReply, Moderate, Followable}
+use Rattle.editor.specs.Wording.Marks.{nothing, coming, going, inDocument, exchangeOf, cuts, markExchanged, markOf, markedAt, followedReply}
+use Rattle.editor.specs.Wording.Marks.{Moderate, Followable}
 use Rattle.editor.proofs.Laws.Session.{measured}
 use Rattle.editor.proofs.Laws.Encoding.{session-encoded}
-use Rattle.editor.proofs.Laws.Keeps.{acted-sound, fits-acted}
+use Rattle.editor.proofs.Laws.Outcomes.{bounded-done, bounded-full, bounded-long}
+use Rattle.editor.proofs.Laws.Keeps.{acted-sound, fits-acted, lines-acted}
 use Rattle.editor.proofs.Laws.Changes.{size, change-within}
 use Rattle.editor.proofs.Laws.Marks.{cut-mark, acted-mark-within, size-changed}
 
@@ -149,34 +152,42 @@ module _ (Q : ℕ) (n : Lengths) (b : Stores) (sound : Sound Q n b) (k : Key) (o
   unfolding key plainOf
   key-bounded = cond-true _ _ ok
 
-  -- It is done, or refused as FULL, as it would be without the mark.
-  abbrev decided-by : Bool → Did Plain → Outcome
-  decided-by room did = cond room (done did) (refused FULL)
-
-  pressed-by : (room : Bool) → fits T Q (did .state) ≡ room → key T Q k p ≡ decided-by room (pressed k p)
-  unfolding bounded
-  pressed-by room e = key-bounded ∙ ap (λ t. decided-by t (pressed k p)) (fits-acted T Q k p ∙ e)
-
+  -- It is done, or refused as FULL or as LINE, as it would be without the mark.
   module _ {r : EditorReply} {c : Stores} (e : record { reply = r; stores = c } ≡ editedTo Q n b (bounded T Q (acted k p))) where
-    replied : (room : Bool) → fits T Q (did .state) ≡ room → record { reply = r; stores = c } ≡ editedTo Q n b (decided-by room did)
-    unfolding bounded
-    replied room t = e ∙ ap (λ t. editedTo Q n b (decided-by t did)) t
+    -- Refused without the mark, it is refused with it: the reply as it is.
+    same-refusal : (code : ℕ) → bounded T Q did ≡ refused code → bounded T Q (pressed k p) ≡ refused code
+        → record { reply = r; stores = c } ≡ editedTo Q n b (key T Q k p)
+    same-refusal code one other = e ∙ ap (editedTo Q n b) (one ∙ sym (key-bounded ∙ other))
 
     -- A refused key: the reply as it is.
     pub refused-same : ¬ (r .code ≡ 0) → record { reply = r; stores = c } ≡ editedTo Q n b (key T Q k p)
     refused-same not-done =
-        ⊎-elim (λ t. absurd (not-done (ap (λ a. a .reply .code) (replied true t))))
-        (λ t. replied false t ∙ ap (editedTo Q n b) (sym (pressed-by false t)))
+        ⊎-elim
+        (λ room. ⊎-elim
+        (λ lines. absurd (not-done (ap (λ a. a .reply .code) (e ∙ ap (editedTo Q n b) (bounded-done T Q did room lines)))))
+        (λ long. same-refusal LINE (bounded-long T Q did room long)
+        (bounded-long T Q (pressed k p) (fits-acted T Q k p ∙ room) (lines-acted k p ∙ long)))
+        (decided (readable longestLine (did .state))))
+        (λ room. same-refusal FULL (bounded-full T Q did room) (bounded-full T Q (pressed k p) (fits-acted T Q k p ∙ room)))
         (decided (fits T Q (did .state)))
 
-    -- A key that is done has room.
-    has-room : r .code ≡ 0 → fits T Q (did .state) ≡ true
-    has-room none =
-        ⊎-elim (λ t. t) (λ t. absurd (omega (arith, sym none ∙ ap (λ a. a .reply .code) (replied false t)))) (decided (fits T Q (did .state)))
-
     module _ (none : r .code ≡ 0) where
+      -- A key that is done has room, and leaves no line too long.
+      not-refused : (code : ℕ) → 1 ≤ code → ¬ (bounded T Q did ≡ refused code)
+      not-refused code some so = absurd (omega (arith, some, sym none ∙ ap (λ a. a .reply .code) (e ∙ ap (editedTo Q n b) so)))
+
+      has-room : fits T Q (did .state) ≡ true
+      has-room = ⊎-elim (λ t. t) (λ t. absurd (not-refused FULL (omega arith) (bounded-full T Q did t))) (decided (fits T Q (did .state)))
+
+      fits-lines : readable longestLine (did .state) ≡ true
+      fits-lines =
+          ⊎-elim (λ t. t) (λ t. absurd (not-refused LINE (omega arith) (bounded-long T Q did has-room t))) (decided (readable longestLine (did .state)))
+
       done-so : record { reply = r; stores = c } ≡ editedTo Q n b (done did)
-      done-so = replied true (has-room none)
+      done-so = e ∙ ap (editedTo Q n b) (bounded-done T Q did has-room fits-lines)
+
+      pressed-so : key T Q k p ≡ done (pressed k p)
+      pressed-so = key-bounded ∙ bounded-done T Q (pressed k p) (fits-acted T Q k p ∙ has-room) (lines-acted k p ∙ fits-lines)
 
       -- The reply with the mark where the change leaves it.
       pub done-followed : record { reply = followedReply k n r; stores = c } ≡ editedTo Q n b (key T Q k p)
@@ -192,11 +203,11 @@ module _ (Q : ℕ) (n : Lengths) (b : Stores) (sound : Sound Q n b) (k : Key) (o
             };
             stores = storesOf T Q (did .state);
           })
-          ∙ ap (editedTo Q n b) (sym (pressed-by true (has-room none))))
+          ∙ ap (editedTo Q n b) (sym pressed-so))
 
       after-sound : SoundTexts T Q (did .state)
       unfolding plainOf
-      after-sound = acted-sound T Q k p ok (has-room none) (encoded .sound .texts)
+      after-sound = acted-sound T Q k p ok has-room fits-lines (encoded .sound .texts)
 
       -- Nothing of it is longer than a store.
       moderate-by : (e : Exchange) → e ≡ inNumbers (changeOf k p did) → Moderate e (length (p .main .text .l)) (did .state .mark)

@@ -11,19 +11,20 @@ use lib.Seq.{length-take-le}
 use Rattle.gap.specs.Rules.Sequence.{part, patch, zeros}
 use Rattle.gap.specs.Rules.Doc.{Doc, empty, content}
 use Rattle.gap.specs.Rules.Layout.{gapped, paired, ungap}
-use Rattle.gap.proofs.Laws.Tests.{cond-true}
 use borrow.Rule.Slice.PartMut.{midOf, putMid}
 use Rattle.gap.proofs.Laws.Sequence.{length-part, length-zeros}
 use Rattle.gap.proofs.Laws.Runs.{patch-middle, part-back, part-lent}
 use Rattle.gap.proofs.Laws.Layout.{length-gapped, length-paired}
 use Rattle.editor.specs.Words.{Direction, Mode, Main, Quoted, Lengths}
 use Rattle.editor.specs.Rules.Plain.{Plain, Did, done}
+use Rattle.editor.specs.Rules.LongLines.{longestLine, readable}
 use Rattle.editor.specs.Rules.Keys.{withPattern, searched, found, withReplacement, substituted, replaced, fits, bounded}
 use Rattle.editor.specs.Rules.Bytes.{Stores, Edited, quarterOf, alone, lengthsOf, storesOf, plainOf, editedTo, SoundTexts, SoundPlain, Encoded, noSizes}
 use Rattle.editor.specs.Wording.Promise.{Sound, stores, patternTaken, replacementTaken, handed}
 use Rattle.editor.proofs.Laws.Quotation.{no-quotation, copied-whole}
 use Rattle.editor.proofs.Laws.Session.{measured}
 use Rattle.editor.proofs.Laws.Encoding.{plain-of-encoded, encoded-ok, encoded-sized, session-encoded}
+use Rattle.editor.proofs.Laws.Outcomes.{bounded-done}
 use Rattle.editor.proofs.Laws.States.{sound-fits, with-pattern-sound, found-sound, with-replacement-sound}
 
 -- What `give_quotation` does, call by call: the quotation is copied out, given as a pair, and its two quarters are cleared.
@@ -156,7 +157,8 @@ module _ (Q : ℕ) (n : Lengths) (b : Stores) (sound : Sound Q n b) where
         hr = same i .hr;
         mark = same i .mark;
       } in
-      handed-holds (2 * Q) (withPattern Quoted p) m side (record { texts = with-pattern-sound T Q Quoted p (encoded .sound .texts); mark = encoded .sound .mark })
+      handed-holds (2 * Q) (withPattern Quoted p) m side
+      (record { texts = with-pattern-sound T Q Quoted p (encoded .sound .texts); mark = encoded .sound .mark })
       (lengths ∙ sym e)
       (pattern-given T Q p (encoded .sound .texts)) here
 
@@ -196,9 +198,9 @@ module _ (Q : ℕ) (n : Lengths) (b : Stores) (sound : Sound Q n b) where
     abbrev after : (Plain → Did Plain) → Edited
     after act = editedTo Q m (stores (b .text) (b .recall) (b .held) side) (done (act (plainOf Q m (stores (b .text) (b .recall) (b .held) side))))
 
-    handed-done : (act : Plain → Did Plain) → fits T Q (act q .state) ≡ true → after act ≡ editedTo Q n b (bounded T Q (act q))
-    unfolding bounded
-    handed-done act room = ap (λ q. editedTo Q n b (done (act q))) (h .plain) ∙ ap (editedTo Q n b) (sym (cond-true _ _ room))
+    handed-done : (act : Plain → Did Plain) → fits T Q (act q .state) ≡ true → readable longestLine (act q .state) ≡ true
+        → after act ≡ editedTo Q n b (bounded T Q (act q))
+    handed-done act room lines = ap (λ q. editedTo Q n b (done (act q))) (h .plain) ∙ ap (editedTo Q n b) (sym (bounded-done T Q (act q) room lines))
 
   -- So FIND is a search once the quotation is the pattern, and always has room; REPLACE is a substitution once it is the replacement.
   pub find-done : {m : Lengths} {side : List ℕ} → Holds Q (withPattern (p .mode) p) m (stores (b .text) (b .recall) (b .held) side)
@@ -206,11 +208,13 @@ module _ (Q : ℕ) (n : Lengths) (b : Stores) (sound : Sound Q n b) where
       → editedTo Q m (stores (b .text) (b .recall) (b .held) side) (done (searched way (plainOf Q m (stores (b .text) (b .recall) (b .held) side))))
       ≡ editedTo Q n b (bounded T Q (found way p))
   unfolding found
-  find-done h way = handed-done h (searched way) (sound-fits T Q _ (found-sound T Q way p (encoded .sound .texts)))
+  find-done h way =
+      let after = found-sound T Q way p (encoded .sound .texts) in
+      handed-done h (searched way) (sound-fits T Q _ after) (after .lines)
 
   pub replace-done : {m : Lengths} {side : List ℕ} → Holds Q (withReplacement (p .mode) p) m (stores (b .text) (b .recall) (b .held) side)
-      → fits T Q (replaced p .state) ≡ true
+      → fits T Q (replaced p .state) ≡ true → readable longestLine (replaced p .state) ≡ true
       → editedTo Q m (stores (b .text) (b .recall) (b .held) side) (done (substituted (plainOf Q m (stores (b .text) (b .recall) (b .held) side))))
       ≡ editedTo Q n b (bounded T Q (replaced p))
   unfolding replaced
-  replace-done h room = handed-done h substituted room
+  replace-done h room lines = handed-done h substituted room lines

@@ -1,7 +1,7 @@
 -- MARK, CUT and PASTE on record and stores: the document with the held text's store in the place of the recall text's, and the mark.
-use mathlib.Core.Path.{_≡_, refl, sym, ap, _∙_}
+use mathlib.Core.Path.{_≡_, sym, ap, _∙_}
 use mathlib.Core.Logic.{⊎-elim}
-use mathlib.Core.Bool.{Bool, true, false, cond, and-true}
+use mathlib.Core.Bool.{true, false, and-true}
 use mathlib.Core.List.{List}
 use Prim.Native.Nat.{ℕ, _+_, _-_, _≤_, _<_}
 use lib.Dec.{leb}
@@ -16,18 +16,19 @@ use Rattle.gap.proofs.Laws.Holdable.{content-fits}
 use Rattle.editor.specs.Words.{Direction, Reached, Delete, Marking, Unmarked, At, Lengths, Report}
 use Rattle.editor.specs.declared.SideReply.{SideReply}
 use Rattle.editor.specs.declared.EditorReply.{EditorReply}
-use Rattle.editor.specs.Rules.Refusals.{FULL}
+use Rattle.editor.specs.Rules.Refusals.{FULL, LINE}
 use Rattle.editor.specs.Rules.Plain.{Side, Plain, holding, quiet, rang, Did, reporting, within, refused, done}
+use Rattle.editor.specs.Rules.LongLines.{longestLine, readable}
 use Rattle.editor.specs.Rules.Marks.{markWithin, wayTo, farTo}
 use Rattle.editor.specs.Rules.Keys.{carried, recalled, withMark, markedHere, withHolding, cutTo, cut, pasted, fits, bounded}
-use Rattle.editor.specs.Rules.Bytes.{Stores, Edited, sizesOf, holdingSizes, plainOf, lengthsOf, storesOf, unedited, editedTo, Encoded}
-use Rattle.editor.specs.Wording.Promise.{OnSide, SideEdited, written, EditsSide, Sound, stores, fullReply, doneReply}
+use Rattle.editor.specs.Rules.Bytes.{Stores, Edited, sizesOf, holdingSizes, plainOf, lengthsOf, storesOf, editedTo, Encoded}
+use Rattle.editor.specs.Wording.Promise.{OnSide, SideEdited, written, EditsSide, Sound, stores}
 use Rattle.editor.specs.Wording.Marks.{markedAt, heldIn, heldReply}
 use Rattle.editor.proofs.Laws.Session.{measured, passed}
 use Rattle.editor.proofs.Laws.Encoding.{session-encoded}
 use Rattle.editor.proofs.Laws.Fitting.{sizes}
-use Rattle.editor.proofs.Laws.States.{sound-fits}
-use Rattle.editor.proofs.Laws.MarkedStates.{fits-marked, cut-sound}
+use Rattle.editor.proofs.Laws.Outcomes.{bounded-done, bounded-full, bounded-long, bounded-sound}
+use Rattle.editor.proofs.Laws.MarkedStates.{marked-sound, fits-marked}
 
 -- The test of a mark, without a sum that could wrap.
 pub mark-before : (m l r : ℕ) → m ≤ l → true ≡ leb m (l + r)
@@ -51,10 +52,10 @@ module _ (Q : ℕ) (n : Lengths) (b : Stores) (sound : Sound Q n b) where
   encoded = session-encoded Q n b (sound .tabled) (sound .ok)
 
   -- What a session gives CUT and PASTE.
-  pub on-holding : OnSide (holdingSizes n) (b .text) (b .held)
+  pub on-holding : OnSide longestLine (holdingSizes n) (b .text) (b .held)
   on-holding =
       let tests = passed Q n b (sound .ok) in
-      record { gap = is-gap _ _ _ (tests .text); pair = is-pair _ _ _ (tests .held); same = measured Q b (sound .tabled) .held }
+      record { gap = is-gap _ _ _ (tests .text); pair = is-pair _ _ _ (tests .held); same = measured Q b (sound .tabled) .held; lines = tests .lines }
 
   pub mark-inside : markWithin (n .main .l + n .main .r) (n .mark) ≡ true
   mark-inside = passed Q n b (sound .ok) .mark
@@ -67,14 +68,13 @@ module _ (Q : ℕ) (n : Lengths) (b : Stores) (sound : Sound Q n b) where
   marked-done : (mark : Marking) (report : Report)
       → record { reply = record { code = 0; report = report; lengths = markedAt mark n }; stores = b }
       ≡ editedTo Q n b (bounded T Q (reporting report (withMark mark p)))
-  unfolding bounded lengthsOf storesOf
+  unfolding lengthsOf storesOf
   marked-done mark report =
-      let room = fits-marked T Q mark p ∙ sound-fits T Q p (encoded .sound .texts) in
       (λ i. record {
         reply = record { code = 0; report = report; lengths = markedAt mark (sym (encoded .lengths) i) };
         stores = sym (encoded .stores) i;
       })
-      ∙ ap (editedTo Q n b) (sym (cond-true _ _ room))
+      ∙ ap (editedTo Q n b) (sym (bounded-sound T Q (reporting report (withMark mark p)) (marked-sound T Q mark p (encoded .sound .texts))))
 
   -- MARK.
   pub mark-done : {r : EditorReply} {report : Report} {m : Lengths} → r ≡ record { code = 0; report = report; lengths = m } → report ≡ quiet
@@ -102,61 +102,72 @@ module _ (Q : ℕ) (n : Lengths) (b : Stores) (sound : Sound Q n b) where
     unfolding fits
     room-asked = rw (le-leb _ _ (content-fits Q (p .quoted .text) (encoded .sound .texts .quotation)), and-true)
 
-    -- A key on that side that has room is done, with any mark afterwards.
-    holding-done : (mark : Marking) → fits T Q (withHolding left p) ≡ true → {t : SideReply} {text held : List ℕ}
-        → record { reply = t; text = text; recall = held } ≡ written (holdingSizes n) (b .text) (b .held) did
-        → record { reply = heldReply (markedAt mark n) t; stores = stores text (b .recall) held (b .side) }
-        ≡ editedTo Q n b (done (within (λ s. withMark mark (withHolding s p)) did))
-    unfolding written lengthsOf storesOf
-    holding-done mark room e =
-        let known = measured Q b (sound .tabled) in
-        ap (λ (s : SideEdited). record { reply = heldReply (markedAt mark n) (s .reply); stores = stores (s .text) (b .recall) (s .recall) (b .side) })
-        (e ∙ cond-true _ _ (room-asked ∙ room))
-        ∙ λ i. record {
-          reply = record { code = 0; report = did .report; lengths = heldIn (sizesOf left) (markedAt mark (sym (encoded .lengths) i)) };
-          stores = stores (gapped T (left .text)) (sym (encoded .stores) i .recall) (paired (known .held i) (left .recall)) (sym (encoded .stores) i .side);
-        }
+    -- What a key on that side gives, with any mark if it is done.
+    module _ (mark : Marking) where
+      abbrev given : SideEdited
+      given = written longestLine (holdingSizes n) (b .text) (b .held) did
 
-    -- One that has none is refused.
-    holding-full : fits T Q (withHolding left p) ≡ false → {t : SideReply} {text held : List ℕ}
-        → record { reply = t; text = text; recall = held } ≡ written (holdingSizes n) (b .text) (b .held) did
-        → record { reply = heldReply n t; stores = stores text (b .recall) held (b .side) } ≡ editedTo Q n b (refused FULL)
-    unfolding written
-    holding-full room e =
-        ap (λ (s : SideEdited). record { reply = heldReply n (s .reply); stores = stores (s .text) (b .recall) (s .recall) (b .side) })
-        (e ∙ cond-false _ _ (room-asked ∙ room))
+      answer : SideEdited → Edited
+      answer s = record { reply = heldReply n mark (s .reply); stores = stores (s .text) (b .recall) (s .recall) (b .side) }
 
-    holding-bounded : (room : Bool) → fits T Q (withHolding left p) ≡ room → {t : SideReply} {text held : List ℕ}
-        → record { reply = t; text = text; recall = held } ≡ written (holdingSizes n) (b .text) (b .held) did
-        → record { reply = heldReply n t; stores = stores text (b .recall) held (b .side) }
-        ≡ editedTo Q n b (cond room (done (within (λ s. withHolding s p) did)) (refused FULL))
-    unfolding plainOf
-    holding-bounded true room e = holding-done (n .mark) room e
-    holding-bounded false room e = holding-full room e
+      abbrev all : Did Plain
+      all = within (λ s. withMark mark (withHolding s p)) did
+
+      -- One that has room and leaves no line too long is done.
+      holding-done : fits T Q (withHolding left p) ≡ true → readable longestLine (withHolding left p) ≡ true → answer given ≡ editedTo Q n b (done all)
+      unfolding written lengthsOf storesOf answer
+      holding-done room lines =
+          let known = measured Q b (sound .tabled) in
+          ap answer (cond-true _ _ (room-asked ∙ room) ∙ cond-true _ _ lines)
+          ∙ λ i. record {
+            reply = record { code = 0; report = did .report; lengths = heldIn (sizesOf left) (markedAt mark (sym (encoded .lengths) i)) };
+            stores = stores (gapped T (left .text)) (sym (encoded .stores) i .recall) (paired (known .held i) (left .recall)) (sym (encoded .stores) i .side);
+          }
+
+      -- Any other is refused, as FULL before LINE.
+      holding-full : fits T Q (withHolding left p) ≡ false → answer given ≡ editedTo Q n b (refused FULL)
+      unfolding written answer
+      holding-full room = ap answer (cond-false _ _ (room-asked ∙ room))
+
+      holding-long : fits T Q (withHolding left p) ≡ true → readable longestLine (withHolding left p) ≡ false → answer given ≡ editedTo Q n b (refused LINE)
+      unfolding written answer
+      holding-long room long = ap answer (cond-true _ _ (room-asked ∙ room) ∙ cond-false _ _ long)
+
+      holding-bounded : {t : SideReply} {text held : List ℕ} → record { reply = t; text = text; recall = held } ≡ given
+          → record { reply = heldReply n mark t; stores = stores text (b .recall) held (b .side) } ≡ editedTo Q n b (bounded T Q all)
+      unfolding answer
+      holding-bounded e =
+          let room-so = fits-marked T Q mark (withHolding left p) in
+          ap answer e
+          ∙ ⊎-elim
+          (λ room. ⊎-elim
+          (λ lines. holding-done room lines ∙ ap (editedTo Q n b) (sym (bounded-done T Q all (room-so ∙ room) lines)))
+          (λ long. holding-long room long ∙ ap (editedTo Q n b) (sym (bounded-long T Q all (room-so ∙ room) long)))
+          (decided (readable longestLine (withHolding left p))))
+          (λ room. holding-full room ∙ ap (editedTo Q n b) (sym (bounded-full T Q all (room-so ∙ room))))
+          (decided (fits T Q (withHolding left p)))
 
   -- PASTE.
-  pub paste-done : {r : EditorReply} {t : SideReply} {text held : List ℕ} → r ≡ heldReply n t
-      → EditsSide t (holdingSizes n) recalled (b .text) (b .held) text held
+  pub paste-done : {r : EditorReply} {t : SideReply} {text held : List ℕ} → r ≡ heldReply n (n .mark) t
+      → EditsSide longestLine t (holdingSizes n) recalled (b .text) (b .held) text held
       → record { reply = r; stores = stores text (b .recall) held (b .side) } ≡ editedTo Q n b (bounded T Q (pasted p))
-  unfolding pasted bounded plainOf
+  unfolding pasted plainOf
   paste-done {t = t} {text} {held} replied turns =
       (λ i. record { reply = replied i; stores = stores text (b .recall) held (b .side) })
-      ∙ holding-bounded (recalled (holding p)) (fits T Q (withHolding (recalled (holding p) .state) p)) refl turns
+      ∙ holding-bounded (recalled (holding p)) (n .mark) turns
 
   -- CUT, once the way to the mark and the bytes between are known.
   pub cut-done : (m : ℕ) (way : Direction) (d : ℕ) → n .mark ≡ At m → way ≡ wayTo m (n .main .l) → d ≡ farTo m (n .main .l)
-      → {r : EditorReply} {u : Lengths} {t : SideReply} {text held : List ℕ} → r ≡ heldReply u t → u ≡ markedAt Unmarked n
-      → EditsSide t (holdingSizes n) (carried Delete way (Reached d 0)) (b .text) (b .held) text held
+      → {r : EditorReply} {t : SideReply} {text held : List ℕ} → r ≡ heldReply n Unmarked t
+      → EditsSide longestLine t (holdingSizes n) (carried Delete way (Reached d 0)) (b .text) (b .held) text held
       → record { reply = r; stores = stores text (b .recall) held (b .side) } ≡ editedTo Q n b (bounded T Q (cut p))
-  unfolding cutTo bounded plainOf
-  cut-done m way d at is far {t = t} {text} {held} replied lengths turns =
+  unfolding cutTo plainOf
+  cut-done m way d at is far {text = text} {held} replied turns =
       let l = length (p .main .text .l) in
       let act : Did Side = carried Delete (wayTo m l) (Reached (farTo m l) 0) (holding p) in
       let way-so = is ∙ ap (wayTo m) (sym left-long) in
       let far-so = far ∙ ap (farTo m) (sym left-long) in
       let acted : carried Delete way (Reached d 0) (holding p) ≡ act = λ i. carried Delete (way-so i) (Reached (far-so i) 0) (holding p) in
-      let whole : Plain = withHolding (act .state) p in
-      let room = sound-fits T Q (withMark Unmarked whole) (cut-sound T Q (At m) p (encoded .sound .texts)) in
-      (λ i. record { reply = (replied ∙ λ i. heldReply (lengths i) t) i; stores = stores text (b .recall) held (b .side) })
-      ∙ (holding-done act Unmarked (sym (fits-marked T Q Unmarked whole) ∙ room) (turns ∙ ap (written (holdingSizes n) (b .text) (b .held)) acted)
-      ∙ (ap (editedTo Q n b) (sym (cond-true _ _ room)) ∙ ap (λ mark. editedTo Q n b (bounded T Q (cutTo mark p))) (sym at)))
+      (λ i. record { reply = replied i; stores = stores text (b .recall) held (b .side) })
+      ∙ (holding-bounded act Unmarked (turns ∙ ap (written longestLine (holdingSizes n) (b .text) (b .held)) acted)
+      ∙ ap (λ mark. editedTo Q n b (bounded T Q (cutTo mark p))) (sym at))

@@ -73,17 +73,17 @@ module _ (Q : ℕ) (side : List ℕ) (long : length side ≡ 4 * Q) where
         ∙ drop-at (text ++ recall) _ (2 * Q) (rw length-append (omega arith))
 
   -- A key on the text's quarter and on the array is a key on the two quarters.
-  pub quotation-edited : (t : SideReply) (n : Sizes) (edit : Side → Did Side) (own text recall exit : List ℕ) → own ≡ quarterOf Q 1 side
+  pub quotation-edited : (limit : ℕ) (t : SideReply) (n : Sizes) (edit : Side → Did Side) (own text recall exit : List ℕ) → own ≡ quarterOf Q 1 side
       → length text ≡ length (take Q side) → length recall ≡ length own
-      → EditsSide t n edit (take Q side) own text recall → exit ≡ patch Q recall (text ++ drop Q side)
-      → EditsSide t n edit (quarterOf Q 0 side) (quarterOf Q 1 side) (quarterOf Q 0 exit) (quarterOf Q 1 exit)
+      → EditsSide limit t n edit (take Q side) own text recall → exit ≡ patch Q recall (text ++ drop Q side)
+      → EditsSide limit t n edit (quarterOf Q 0 side) (quarterOf Q 1 side) (quarterOf Q 0 exit) (quarterOf Q 1 exit)
       × (drop (2 * Q) exit ≡ drop (2 * Q) side)
   unfolding part
-  quotation-edited t n edit own text recall exit known first second turns back =
+  quotation-edited limit t n edit own text recall exit known first second turns back =
       let one : length text ≡ Q = first ∙ length-take-le Q side (omega arith) in
       let other : length recall ≡ Q = second ∙ ap length known ∙ length-second in
       let before : take Q side ≡ quarterOf Q 0 side = rw zero-mul in (
         (λ i. record { reply = t; text = first-back text recall exit one other back i; recall = second-back text recall exit one other back i })
-            ∙ turns ∙ λ i. written n (before i) (known i) (edit (sideHeld n (before i) (known i))),
+            ∙ turns ∙ λ i. written limit n (before i) (known i) (edit (sideHeld n (before i) (known i))),
         rest-back text recall exit one other back,
       )

@@ -13,7 +13,8 @@ use Rattle.gap.specs.Rules.Doc.{content}
 use Rattle.gap.specs.Rules.Layout.{ungap}
 use Rattle.gap.proofs.Laws.Tests.{decided, cond-false}
 use Rattle.editor.specs.Words.{Mode, Main, Quoted, Lengths}
-use Rattle.editor.specs.Rules.Refusals.{FULL}
+use Rattle.editor.specs.Rules.Refusals.{FULL, LINE}
+use Rattle.editor.specs.Rules.LongLines.{longestLine, readable}
 use Rattle.editor.specs.Rules.Plain.{Plain, Did}
 use Rattle.editor.specs.Rules.Keys.{matches, withReplacement, substituted, replaced, fits, bounded}
 use Rattle.editor.specs.Rules.Bytes.{Stores, plainOf, unedited, editedTo, SoundTexts, Encoded}
@@ -23,6 +24,7 @@ use Rattle.editor.proofs.Laws.HandedOver.{Holds}
 use Rattle.editor.proofs.Laws.Fitting.{Sized, sizes, Fitting}
 use Rattle.editor.proofs.Laws.FindReplace.{pattern-lent}
 use Rattle.editor.proofs.Laws.Encoding.{session-encoded}
+use Rattle.editor.proofs.Laws.Outcomes.{bounded-full, bounded-long}
 use Rattle.editor.proofs.Laws.Room.{fits-not, fits-within, substituted-exceeds}
 use Rattle.editor.proofs.Laws.States.{sound-fits, with-replacement-sound}
 
@@ -126,11 +128,12 @@ module _ (Q : ℕ) (n : Lengths) (b : Stores) (sound : Sound Q n b) where
     -- It fails exactly where FULL is due.
     pub replace-refused : ok ≡ false → {reply : EditorReply} → reply ≡ unedited FULL n
         → record { reply = reply; stores = b } ≡ editedTo Q n b (bounded T Q (replaced p))
-    unfolding bounded replaced
+    unfolding replaced
     replace-refused failed e =
         let (match, over) = no-room here _ _ (sym tested ∙ failed) in
         let exceeds = substituted-exceeds T Q next next-sound (as-known ∙ match) .1 (rw finished-as over) in
-        (λ i. record { reply = e i; stores = b }) ∙ ap (editedTo Q n b) (sym (cond-false _ _ (fits-not T Q (substituted next .state) .1 exceeds)))
+        (λ i. record { reply = e i; stores = b })
+        ∙ ap (editedTo Q n b) (sym (bounded-full T Q (substituted next) (fits-not T Q (substituted next .state) .1 exceeds)))
 
     pub replace-fits : ok ≡ true → fits T Q (replaced p .state) ≡ true
     unfolding replaced substituted
@@ -143,8 +146,16 @@ module _ (Q : ℕ) (n : Lengths) (b : Stores) (sound : Sound Q n b) where
         (λ e. ap (λ (did : Did Plain). fits T Q (did .state)) (cond-false _ _ (as-known ∙ e)) ∙ sound-fits T Q next next-sound)
         (decided here)
 
+    -- Where it passes, and a line of the finished document would be too long, LINE is due.
+    pub replace-long : ok ≡ true → readable longestLine (replaced p .state) ≡ false → {reply : EditorReply} → reply ≡ unedited LINE n
+        → record { reply = reply; stores = b } ≡ editedTo Q n b (bounded T Q (replaced p))
+    replace-long passed long e =
+        (λ i. record { reply = e i; stores = b }) ∙ ap (editedTo Q n b) (sym (bounded-long T Q (replaced p) (replace-fits passed) long))
+
     -- What a substitution asks of the plain state handed over.
-    pub replace-substitutes : ok ≡ true → {m : Lengths} {c : Stores} → Holds Q (withReplacement (p .mode) p) m c
+    pub replace-substitutes : ok ≡ true → readable longestLine (replaced p .state) ≡ true
+        → {m : Lengths} {c : Stores} → Holds Q (withReplacement (p .mode) p) m c
         → (here ≡ matches (plainOf Q m c .pattern) (plainOf Q m c .main .text)) × (fits T Q (substituted (plainOf Q m c) .state) ≡ true)
+        × (readable longestLine (substituted (plainOf Q m c) .state) ≡ true)
     unfolding replaced
-    replace-substitutes passed h = rw (h .plain) (sym as-known, replace-fits passed)
+    replace-substitutes passed lines h = rw (h .plain) (sym as-known, replace-fits passed, lines)

@@ -1,5 +1,6 @@
 -- Replies to keys: what a session gives each of its sides, and what a key on one side is on all four stores.
 use mathlib.Core.Path.{_≡_, refl, sym, ap, _∙_}
+use mathlib.Core.Logic.{⊎-elim}
 use mathlib.Core.Bool.{Bool, true, false, cond, and-true}
 use mathlib.Core.List.{List, _++_, append-assoc}
 use Prim.Native.Nat.{ℕ, _*_, _≤_}
@@ -11,13 +12,16 @@ use borrow.Author.Tests.{le-leb}
 use Rattle.gap.specs.Rules.Sequence.{patch, zeros}
 use Rattle.gap.specs.Rules.Doc.{empty, content}
 use Rattle.gap.specs.Rules.Layout.{gapped, paired}
-use Rattle.gap.proofs.Laws.Tests.{cond-true, cond-false}
+use Rattle.gap.specs.Rules.LineLimits.{linesFit}
+use Rattle.gap.proofs.Laws.Tests.{decided, cond-true, cond-false}
+use Rattle.gap.proofs.Laws.LineLimits.{fit-short}
 use Rattle.gap.proofs.Laws.Layout.{length-gapped, length-paired, is-gap, is-pair}
 use Rattle.editor.specs.Words.{Mode, Main, Quoted, Sizes, Lengths, Report}
 use Rattle.editor.specs.declared.SideReply.{SideReply}
 use Rattle.editor.specs.declared.EditorReply.{EditorReply}
-use Rattle.editor.specs.Rules.Refusals.{FULL}
+use Rattle.editor.specs.Rules.Refusals.{FULL, LINE}
 use Rattle.editor.specs.Rules.Plain.{Side, emptySide, Plain, quiet, Did, within, refused, done}
+use Rattle.editor.specs.Rules.LongLines.{longestLine, readable}
 use Rattle.editor.specs.Rules.Keys.{sideOf, withSide, onSide, otherMode, quoted, fits, bounded}
 use Rattle.editor.specs.Rules.Bytes.{Stores, Edited, quarterOf, alone, sizesOf, plainOf, lengthsOf, storesOf, unedited, editedTo, SoundTexts, Encoded}
 use Rattle.editor.specs.Wording.Promise.{OnSide, sideHeld, SideEdited, written, EditsSide, Sound, stores, cleared, sizedIn, replyOf}
@@ -26,7 +30,8 @@ use Rattle.editor.proofs.Laws.Quarters.{length-quarter}
 use Rattle.editor.proofs.Laws.Quotation.{two-quarters, quotation-cleared}
 use Rattle.editor.proofs.Laws.Session.{measured, passed}
 use Rattle.editor.proofs.Laws.Encoding.{session-encoded}
-use Rattle.editor.proofs.Laws.States.{limit, sound-fits, quoted-sound}
+use Rattle.editor.proofs.Laws.States.{limit, lineLimit, fits-side, quoted-sound}
+use Rattle.editor.proofs.Laws.Outcomes.{bounded-sound}
 
 -- The lengths and the two stores of the side that a mode names.
 abbrev pub sizesAt : Mode → Lengths → Sizes
@@ -83,6 +88,11 @@ module _ (T Q : ℕ) (s : Side) (p : Plain) (sound : SoundTexts T Q p) where
   fits-with Main = rw (le-leb _ _ (content-fits Q (p .quoted .text) (sound .quotation)), and-true)
   fits-with Quoted = rw (le-leb _ _ (content-fits T (p .main .text) (sound .text)))
 
+  -- The lines of the side are the document's; or they are the quotation's, which are short, and the document's are as they were.
+  lines-with : (m : Mode) → fits T Q (withSide m s p) ≡ true → linesFit (lineLimit Q m) (content (s .text)) ≡ readable longestLine (withSide m s p)
+  lines-with Main room = refl
+  lines-with Quoted room = fit-short Q (content (s .text)) (fits-side T Q Quoted (withSide Quoted s p) room) ∙ sym (sound .lines)
+
 sized-with : (m : Mode) (s : Side) (p : Plain) → sizedIn m (sizesOf s) (lengthsOf p) ≡ lengthsOf (withSide m s p)
 unfolding lengthsOf
 sized-with Main s p = refl
@@ -103,13 +113,15 @@ module _ (Q : ℕ) (n : Lengths) (b : Stores) (sound : Sound Q n b) where
   quarter-long i h = length-quarter Q 3 i (b .side) (measured Q b (sound .tabled) .side) h
 
   -- Either side has what a key on it asks.
-  pub on-side : (m : Mode) → OnSide (sizesAt m n) (textAt Q m b) (recallAt Q m b)
+  pub on-side : (m : Mode) → OnSide (lineLimit Q m) (sizesAt m n) (textAt Q m b) (recallAt Q m b)
+  unfolding plainOf
   on-side Main =
       let tests = passed Q n b (sound .ok) in
       record {
         gap = is-gap _ _ _ (tests .text);
         pair = is-pair _ _ _ (tests .recall);
         same = measured Q b (sound .tabled) .recall;
+        lines = tests .lines;
       }
   on-side Quoted =
       let tests = passed Q n b (sound .ok) in
@@ -117,6 +129,7 @@ module _ (Q : ℕ) (n : Lengths) (b : Stores) (sound : Sound Q n b) where
         gap = is-gap _ _ _ (tests .quotation);
         pair = is-pair _ _ _ (tests .itsRecall);
         same = quarter-long 1 (omega arith) ∙ sym (quarter-long 0 (omega arith));
+        lines = fit-short Q _ (content-fits Q (p .quoted .text) (encoded .sound .texts .quotation));
       }
 
   length-text : (m : Mode) → length (textAt Q m b) ≡ limit T Q m
@@ -147,23 +160,36 @@ module _ (Q : ℕ) (n : Lengths) (b : Stores) (sound : Sound Q n b) where
         (λ i. placed Q m (gapped (length-text m i) (left .text)) (paired (length-recall m i) (left .recall)) (sym (encoded .stores) i))
         ∙ placed-with T Q left p (encoded .sound .texts) m
 
-    answered : (room : Bool) → leb (length (content (left .text))) (length (textAt Q m b)) ≡ room
-        → answer m (written (sizesAt m n) (textAt Q m b) (recallAt Q m b) did) ≡ editedTo Q n b (cond room (done all) (refused FULL))
+    abbrev given : SideEdited
+    given = written (lineLimit Q m) (sizesAt m n) (textAt Q m b) (recallAt Q m b) did
+
+    room-asked : leb (length (content (left .text))) (length (textAt Q m b)) ≡ fits T Q (all .state)
+    room-asked = ap (leb (length (content (left .text)))) (length-text m) ∙ fits-with T Q left p (encoded .sound .texts) m
+
+    answered-full : fits T Q (all .state) ≡ false → answer m given ≡ editedTo Q n b (refused FULL)
     unfolding written answer
-    answered true e = ap (answer m) (cond-true _ _ e) ∙ λ i. record {
+    answered-full room = ap (answer m) (cond-false _ _ (room-asked ∙ room)) ∙ λ i. record { reply = unedited FULL n; stores = placed-same Q m b i }
+
+    answered : fits T Q (all .state) ≡ true → (lines : Bool) → linesFit (lineLimit Q m) (content (left .text)) ≡ lines
+        → answer m given ≡ editedTo Q n b (cond lines (done all) (refused LINE))
+    unfolding written answer
+    answered room true fit = ap (answer m) (cond-true _ _ (room-asked ∙ room) ∙ cond-true _ _ fit) ∙ λ i. record {
       reply = record { code = 0; report = did .report; lengths = lengths-with i };
       stores = stores-with i;
     }
-    answered false e = ap (answer m) (cond-false _ _ e) ∙ λ i. record { reply = unedited FULL n; stores = placed-same Q m b i }
+    answered room false fit =
+        ap (answer m) (cond-true _ _ (room-asked ∙ room) ∙ cond-false _ _ fit) ∙ λ i. record { reply = unedited LINE n; stores = placed-same Q m b i }
 
-    -- A key on a side, done or refused as full, is that key on all four stores: the side that it leaves alone fits anyway.
-    pub landed : (t : SideReply) (text recall : List ℕ)
-        → record { reply = t; text = text; recall = recall } ≡ written (sizesAt m n) (textAt Q m b) (recallAt Q m b) did
+    -- A key on a side, done or refused, is that key on all four stores: the side that it leaves alone fits anyway, and so do its lines.
+    pub landed : (t : SideReply) (text recall : List ℕ) → record { reply = t; text = text; recall = recall } ≡ given
         → record { reply = replyOf m n t; stores = placed Q m text recall b } ≡ editedTo Q n b (bounded T Q (within (λ s. withSide m s p) did))
     unfolding answer bounded
     landed t text recall e =
         ap (answer m) e
-        ∙ answered _ (ap (leb (length (content (left .text)))) (length-text m) ∙ fits-with T Q left p (encoded .sound .texts) m)
+        ∙ ⊎-elim
+        (λ room. answered room _ (lines-with T Q left p (encoded .sound .texts) m room) ∙ ap (editedTo Q n b) (sym (cond-true _ _ room)))
+        (λ room. answered-full room ∙ ap (editedTo Q n b) (sym (cond-false _ _ room)))
+        (decided (fits T Q (all .state)))
 
   side-held : (m : Mode) → sideHeld (sizesAt m n) (textAt Q m b) (recallAt Q m b) ≡ sideOf m p
   unfolding plainOf
@@ -172,7 +198,7 @@ module _ (Q : ℕ) (n : Lengths) (b : Stores) (sound : Sound Q n b) where
 
   -- So a key on the mode's side does what the plain editor says.
   pub on-mode : (m : Mode) (edit : Side → Did Side) (r : EditorReply) (t : SideReply) (text recall : List ℕ)
-      → n .mode ≡ m → r ≡ replyOf (n .mode) n t → EditsSide t (sizesAt m n) edit (textAt Q m b) (recallAt Q m b) text recall
+      → n .mode ≡ m → r ≡ replyOf (n .mode) n t → EditsSide (lineLimit Q m) t (sizesAt m n) edit (textAt Q m b) (recallAt Q m b) text recall
       → record { reply = r; stores = placed Q m text recall b } ≡ editedTo Q n b (bounded T Q (onSide edit p))
   unfolding plainOf onSide
   on-mode m edit r t text recall mode reply turns =
@@ -185,7 +211,7 @@ module _ (Q : ℕ) (n : Lengths) (b : Stores) (sound : Sound Q n b) where
   -- The same on the quotation's side, whose two quarters lie in the side store.
   pub on-quotation : (edit : Side → Did Side) (r : EditorReply) (t : SideReply) (side : List ℕ)
       → n .mode ≡ Quoted → r ≡ replyOf (n .mode) n t
-      → EditsSide t (n .quoted) edit (quarterOf Q 0 (b .side)) (quarterOf Q 1 (b .side)) (quarterOf Q 0 side) (quarterOf Q 1 side)
+      → EditsSide Q t (n .quoted) edit (quarterOf Q 0 (b .side)) (quarterOf Q 1 (b .side)) (quarterOf Q 0 side) (quarterOf Q 1 side)
       → drop (2 * Q) side ≡ drop (2 * Q) (b .side)
       → record { reply = r; stores = stores (b .text) (b .recall) (b .held) side } ≡ editedTo Q n b (bounded T Q (onSide edit p))
   on-quotation edit r t side mode reply turns rest =
@@ -196,13 +222,12 @@ module _ (Q : ℕ) (n : Lengths) (b : Stores) (sound : Sound Q n b) where
   pub quote-done : {r : EditorReply} {report : Report} {m : Lengths} (side : List ℕ) → r ≡ record { code = 0; report = report; lengths = m }
       → report ≡ quiet → m ≡ cleared (otherMode (n .mode)) n → side ≡ patch 0 (zeros (2 * Q)) (b .side)
       → record { reply = r; stores = stores (b .text) (b .recall) (b .held) side } ≡ editedTo Q n b (bounded T Q (quoted p))
-  unfolding quoted bounded lengthsOf storesOf
+  unfolding quoted lengthsOf storesOf
   quote-done side replied said taken freed =
-      let room : fits T Q (quoted p .state) ≡ true = sound-fits T Q (quoted p .state) (quoted-sound T Q p (encoded .sound .texts)) in
       let lengths = taken ∙ ap (λ n. cleared (otherMode (n .mode)) n) (sym (encoded .lengths)) in
       let then : stores (b .text) (b .recall) (b .held) side ≡ storesOf T Q (quoted p .state) =
       ap (stores (b .text) (b .recall) (b .held)) (freed ∙ quotation-cleared Q (b .side))
       ∙ ap (placed Q Quoted (gapped Q empty) (paired Q empty)) (sym (encoded .stores))
       ∙ placed-with T Q emptySide p (encoded .sound .texts) Quoted in
       (λ i. record { reply = (replied ∙ λ i. record { code = 0; report = said i; lengths = lengths i }) i; stores = then i })
-      ∙ ap (editedTo Q n b) (sym (cond-true (done (quoted p)) (refused FULL) room))
+      ∙ ap (editedTo Q n b) (sym (bounded-sound T Q (quoted p) (quoted-sound T Q p (encoded .sound .texts))))

@@ -5,10 +5,13 @@ use Prim.Native.Nat.{ℕ, _+_, _*_, _≤_}
 use lib.Dec.{leb, eqb}
 use lib.ListN.{length}
 use borrow.Author.Tests.{leb-true, le-leb, eqb-true, eq-eqb}
-use Rattle.gap.specs.Rules.Layout.{soundGap, soundPair}
+use Rattle.gap.specs.Rules.Doc.{content}
+use Rattle.gap.specs.Rules.Layout.{ungap, soundGap, soundPair}
+use Rattle.gap.specs.Rules.LineLimits.{linesFit}
 use Rattle.gap.proofs.Laws.Tests.{and-left, and-right, and-both}
 use Rattle.editor.specs.Words.{Lengths}
 use Rattle.editor.specs.Rules.Bytes.{Stores, sized, quarterOf, oneHalf, holdingSizes, unquoted, editorOk}
+use Rattle.editor.specs.Rules.LongLines.{longestLine}
 use Rattle.editor.specs.Rules.Marks.{markWithin}
 
 -- What the test of sizes asks.
@@ -22,6 +25,7 @@ pub record Measured (Q : ℕ) (b : Stores) : Type 0 where
 -- What the session test asks, test by test, under the names that SoundTexts and SoundPlain have for them.
 pub record Passed (Q : ℕ) (n : Lengths) (b : Stores) : Type 0 where
   pub text : soundGap (n .main .l) (n .main .r) (b .text) ≡ true
+  pub lines : linesFit longestLine (content (ungap (n .main .l) (n .main .r) (b .text))) ≡ true
   pub recall : soundPair (n .main .rl) (n .main .rr) (b .recall) ≡ true
   pub quotation : soundGap (n .quoted .l) (n .quoted .r) (quarterOf Q 0 (b .side)) ≡ true
   pub itsRecall : soundPair (n .quoted .rl) (n .quoted .rr) (quarterOf Q 1 (b .side)) ≡ true
@@ -62,13 +66,15 @@ module _ (Q : ℕ) (n : Lengths) (b : Stores) where
   pub passed : editorOk Q n b ≡ true → Passed Q n b
   unfolding editorOk
   passed e =
-      let (text, recall, quoted) = split (soundGap (n .main .l) (n .main .r) (b .text)) _ _ e in
+      let lines : Bool = linesFit longestLine (content (ungap (n .main .l) (n .main .r) (b .text))) in
+      let (document, recall, quoted) = split (soundGap (n .main .l) (n .main .r) (b .text) && lines) _ _ e in
       let (quotation, itsRecall, pairs) = split (soundGap (n .quoted .l) (n .quoted .r) (quarterOf Q 0 (b .side))) _ _ quoted in
       let (pattern, replacement, rest) = split (soundPair (n .pl) 0 (quarterOf Q 2 (b .side))) _ _ pairs in
       let (held, mark, halves) = split (soundPair (n .hl) (n .hr) (b .held)) _ _ rest in
       let (half, itsHalf, others) = split (oneHalf (n .main)) _ _ halves in
       record {
-        text = text;
+        text = and-left (soundGap (n .main .l) (n .main .r) (b .text)) lines document;
+        lines = and-right (soundGap (n .main .l) (n .main .r) (b .text)) lines document;
         recall = recall;
         quotation = quotation;
         itsRecall = itsRecall;
@@ -85,7 +91,7 @@ module _ (Q : ℕ) (n : Lengths) (b : Stores) where
   pub passed-ok : Passed Q n b → editorOk Q n b ≡ true
   unfolding editorOk
   passed-ok t =
-      and-both (and-both (t .text) (t .recall))
+      and-both (and-both (and-both (t .text) (t .lines)) (t .recall))
       (and-both (and-both (t .quotation) (t .itsRecall))
       (and-both (and-both (t .pattern) (t .replacement))
       (and-both (and-both (t .held) (t .mark))

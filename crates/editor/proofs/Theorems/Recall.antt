@@ -9,19 +9,21 @@ use native.Mathlib.Omega.{arith}
 use lib.ListN.{length}
 use Rattle.gap.specs.Rules.Sequence.{every}
 use Rattle.gap.specs.Rules.Doc.{Doc, content, move, delete, times, passed, splice, removed}
-use Rattle.gap.specs.Rules.Lines.{newlines}
+use Rattle.gap.specs.Rules.Lines.{newlines, lines}
+use Rattle.gap.specs.Rules.LineLimits.{noneLonger, linesFit}
 use Rattle.gap.specs.Rules.Nearest.{nearest, distance}
 use Rattle.gap.proofs.Laws.Tests.{clash}
 use Rattle.gap.proofs.Laws.Doc.{insertions}
 use Rattle.editor.specs.Words.{Direction, Left, Right, Passage, Reached, Nowhere, Action, Move, Delete, Place, Character, Mode, Main, Quoted, Marking}
 use Rattle.editor.specs.Words.{Function, Recall, Find}
-use Rattle.editor.specs.Rules.Refusals.{FULL}
+use Rattle.editor.specs.Rules.Refusals.{FULL, LINE}
+use Rattle.editor.specs.Rules.LongLines.{longestLine, readable}
 use Rattle.editor.specs.Rules.Places.{isAt}
 use Rattle.editor.specs.Rules.Passages.{withLines, passageTo}
 use Rattle.editor.specs.Rules.Plain.{Side, Plain, opening, quiet, rang, Did, reporting, within, refused, done}
 use Rattle.editor.specs.Rules.Keys.{soundKey, carried, function, recalled, sideOf, withSide, onSide, withPattern, matches, searched, found}
 use Rattle.editor.specs.Rules.Marks.{putting, taking, markThrough, markChanged}
-use Rattle.editor.specs.Rules.Keys.{withMark, ofDocument, changeOf, acted, pressed, fits, bounded, key, after, keys, Unsound, Exceeds}
+use Rattle.editor.specs.Rules.Keys.{withMark, ofDocument, changeOf, acted, pressed, fits, bounded, key, after, keys, Unsound, Exceeds, LongLine}
 use Rattle.editor.specs.Rules.Bytes.{SoundPlain}
 use Rattle.editor.specs.Wording.Recalling.{withRecall, recallPutIn}
 use Rattle.editor.proofs.Laws.Outcomes.{accepted}
@@ -30,7 +32,7 @@ use Rattle.editor.proofs.Laws.MarkedStates.{fits-marked}
 use Rattle.editor.proofs.Laws.MarkedStates.{side-marked, on-side-mark, on-side-marked}
 use Rattle.editor.proofs.Laws.Changes.{put-back, moved-content}
 use Rattle.editor.proofs.Laws.Marks.{through-nothing}
-use Rattle.editor.proofs.Theorems.Refusals.{key-unsound, refused-full, done-otherwise}
+use Rattle.editor.proofs.Theorems.Refusals.{key-unsound, refused-full, refused-line, done-otherwise}
 use Rattle.editor.proofs.Theorems.Sessions.{opening-sound, keys-keep}
 
 -- ---- The bell
@@ -81,7 +83,7 @@ pub function-rings : (T Q : ℕ) (action : Action) (way : Direction) (place : Pl
     → key T Q (Function action way place) p ≡ done did → did .report .bell ≡ true → did .state ≡ p
 unfolding pressed acted
 function-rings T Q action way place p did e bell =
-    let (ok, room, same) = accepted T Q (Function action way place) p did .0 e in
+    let (ok, room, lines, same) = accepted T Q (Function action way place) p did .0 e in
     let acted = onSide (function action way place) p in
     let rung = ap (λ d. d .report .bell) same ∙ bell in
     let stays = rings-stays action way place p rung in
@@ -110,11 +112,21 @@ recall-refused T Q p =
       λ over. refused-full T Q Recall p .1 (recall-sound (p .mode), subst⁻¹ (Exceeds T Q) so over),
     )
 
-pub recall-done : (T Q : ℕ) (p : Plain) → (key T Q Recall p ≡ done (reporting quiet (recallPutIn p))) ↔ (¬ Exceeds T Q (recallPutIn p))
+pub recall-done : (T Q : ℕ) (p : Plain)
+    → (key T Q Recall p ≡ done (reporting quiet (recallPutIn p))) ↔ ((¬ Exceeds T Q (recallPutIn p)) × (¬ LongLine (recallPutIn p)))
 recall-done T Q p =
     let so = ap (λ d. d .state) (recall-does p) in (
-      λ e. λ over. done-otherwise T Q Recall p .0 (e ∙ ap done (sym (recall-does p))) .1 (subst⁻¹ (Exceeds T Q) so over),
-      λ short. done-otherwise T Q Recall p .1 (recall-sound (p .mode), λ over. short (subst (Exceeds T Q) so over)) ∙ ap done (recall-does p),
+      λ e. let (good, within, short) = done-otherwise T Q Recall p .0 (e ∙ ap done (sym (recall-does p))) in
+          (λ over. within (subst⁻¹ (Exceeds T Q) so over), λ long. short (subst⁻¹ LongLine so long)),
+      λ (within, short). done-otherwise T Q Recall p .1
+          (recall-sound (p .mode), λ over. within (subst (Exceeds T Q) so over), λ long. short (subst LongLine so long)) ∙ ap done (recall-does p),
+    )
+
+pub recall-long : (T Q : ℕ) (p : Plain) → (key T Q Recall p ≡ refused LINE) ↔ ((¬ Exceeds T Q (recallPutIn p)) × LongLine (recallPutIn p))
+recall-long T Q p =
+    let so = ap (λ d. d .state) (recall-does p) in (
+      λ e. let (good, within, long) = refused-line T Q Recall p .0 e in (λ over. within (subst⁻¹ (Exceeds T Q) so over), subst LongLine so long),
+      λ (within, long). refused-line T Q Recall p .1 (recall-sound (p .mode), λ over. within (subst (Exceeds T Q) so over), subst⁻¹ LongLine so long),
     )
 
 -- ---- A deletion that found its place
@@ -131,6 +143,13 @@ pub recall-after-deletion : (way : Direction) (place : Place) (s : Side) → 1 �
     ≡ reporting quiet (record { text = s .text; recall = function Delete way place s .state .recall })
 unfolding function
 recall-after-deletion way place s some = recall-carried way (passageTo way (isAt place way) (s .text)) s some
+
+lines-with-recall : (recall : Doc) (p : Plain) → readable longestLine (withRecall recall p) ≡ readable longestLine p
+lines-with-recall recall p = go (p .mode)
+  where
+    go : (mode : Mode) → readable longestLine (withSide mode (record { text = sideOf mode p .text; recall = recall }) p) ≡ readable longestLine p
+    go Main = refl
+    go Quoted = refl
 
 fits-with-recall : (T Q : ℕ) (recall : Doc) (p : Plain) → fits T Q (withRecall recall p) ≡ fits T Q p
 unfolding fits
@@ -170,7 +189,7 @@ module _ (T Q : ℕ) (way : Direction) (place : Place) (p : Plain) (did : Did Pl
       ≡ done (reporting quiet (withMark (recallPutIn (did .state) .mark) (withRecall (sideOf (p .mode) (did .state) .recall) p)))
   unfolding pressed acted soundKey
   recall-restores sound some =
-      let (ok, room, same) = accepted T Q (Function Delete way place) p did .0 e in
+      let (ok, room, lines, same) = accepted T Q (Function Delete way place) p did .0 e in
       let after = onSide (function Delete way place) p in
       let mark = markChanged (changeOf (Function Delete way place) p after) (p .main .text) (after .state .mark) in
       let q = withMark mark (after .state) in
@@ -180,16 +199,20 @@ module _ (T Q : ℕ) (way : Direction) (place : Place) (p : Plain) (did : Did Pl
       (accepted T Q Recall q (reporting quiet (withMark (recallPutIn q .mark) (withRecall recall p))) .1 (
         refl,
         ap (λ d. fits T Q (d .state)) back ∙ (fits-marked T Q _ (withRecall recall p) ∙ (fits-with-recall T Q recall p ∙ sound-fits T Q p (sound .texts))),
+        ap (λ d. readable longestLine (d .state)) back ∙ (lines-with-recall recall p ∙ sound .texts .lines),
         back,
       ))
 
   -- With the bell it does what it would have done before the deletion: the older recall text goes in, or it is refused as FULL, which is
-  -- exactly when the finished text would not fit.
+  -- exactly when the finished text would not fit, or as LINE.
   pub recall-older-refused : did .report .bell ≡ true → (key T Q Recall (did .state) ≡ refused FULL) ↔ Exceeds T Q (recallPutIn p)
   recall-older-refused bell = rw (function-rings T Q Delete way place p did e bell) (recall-refused T Q p)
 
+  pub recall-older-long : did .report .bell ≡ true → (key T Q Recall (did .state) ≡ refused LINE) ↔ ((¬ Exceeds T Q (recallPutIn p)) × LongLine (recallPutIn p))
+  recall-older-long bell = rw (function-rings T Q Delete way place p did e bell) (recall-long T Q p)
+
   pub recall-older-done : did .report .bell ≡ true
-      → (key T Q Recall (did .state) ≡ done (reporting quiet (recallPutIn p))) ↔ (¬ Exceeds T Q (recallPutIn p))
+      → (key T Q Recall (did .state) ≡ done (reporting quiet (recallPutIn p))) ↔ ((¬ Exceeds T Q (recallPutIn p)) × (¬ LongLine (recallPutIn p)))
   recall-older-done bell = rw (function-rings T Q Delete way place p did e bell) (recall-done T Q p)
 
 -- Without the steps this is false, and was true before M-103. At a| a deletion to the right takes the a away; one to the left then rings, and
@@ -202,9 +225,9 @@ pub restores-not-always : ¬ ((T Q : ℕ) (way : Direction) (place : Place) (p :
     → key T Q Recall (did .state)
     ≡ done (reporting quiet (withMark (recallPutIn (did .state) .mark) (withRecall (sideOf (p .mode) (did .state) .recall) p))))
 unfolding every move delete times passed removed splice nearest distance newlines withLines passageTo isAt soundKey carried function
-    recalled onSide acted changeOf markThrough pressed fits bounded key keys
+    recalled onSide acted changeOf markThrough pressed linesFit noneLonger lines longestLine fits bounded key keys
 restores-not-always claim =
-    let sound = keys-keep 1 1 (Function Delete Right Character ∷ []) (opening (97 ∷ [])) (opening-sound 1 1 1 (97 ∷ []) (omega arith) refl) in
+    let sound = keys-keep 1 1 (Function Delete Right Character ∷ []) (opening (97 ∷ [])) (opening-sound 1 1 1 (97 ∷ []) (omega arith) refl refl) in
     omega (arith, ap (λ o. length (content (after taken o .main .text))) (claim 1 1 Left Character taken (reporting rang taken) sound refl))
 
 -- Moves keep the content of the text that they act on.
@@ -213,7 +236,7 @@ pub move-keeps : (T Q : ℕ) (way : Direction) (place : Place) (p : Plain) (did 
     → content (sideOf (p .mode) (did .state) .text) ≡ content (sideOf (p .mode) p .text)
 unfolding pressed acted onSide function
 move-keeps T Q way place p did e =
-    let (ok, room, same) = accepted T Q (Function Move way place) p did .0 e in
+    let (ok, room, lines, same) = accepted T Q (Function Move way place) p did .0 e in
     let s = sideOf (p .mode) p in
     rw (← same, side-marked (p .mode) _ (withSide (p .mode) (function Move way place s .state) p), side-with (p .mode) (function Move way place s .state) p)
     (moved-content way (passageTo way (isAt place way) (s .text)) s)
@@ -223,7 +246,7 @@ pub find-keeps : (T Q : ℕ) (way : Direction) (p : Plain) (did : Did Plain) →
     → content (did .state .main .text) ≡ content (p .main .text)
 unfolding pressed acted found searched
 find-keeps T Q way p did e =
-    let (ok, room, same) = accepted T Q (Find way) p did .0 e in
+    let (ok, room, lines, same) = accepted T Q (Find way) p did .0 e in
     let q = withPattern (p .mode) p in
     rw (← same)
     (moved-content way (passageTo way (matches (q .pattern)) (q .main .text)) (q .main)

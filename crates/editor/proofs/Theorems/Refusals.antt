@@ -1,6 +1,6 @@
--- Refusals of the plain editor (01, table of refusals): KEY and FULL exactly when the table says, and no others. Then FULL key by
--- key: room that a key gives back is free for it.
-use mathlib.Core.Path.{_≡_, refl, ap, subst}
+-- Refusals of the plain editor (01, table of refusals; 02, M-106): KEY, FULL and LINE exactly when the table says, and no others. Then FULL key by
+-- key: room that a key gives back is free for it. LINE key by key: proofs/Theorems/LongLines.
+use mathlib.Core.Path.{_≡_, refl, ap, subst, _∙_}
 use mathlib.Core.Logic.{_⊎_, inl, inr, ⊎-elim, _↔_, Iff·trans, Iff·and}
 use mathlib.Core.Bool.{true, false}
 use mathlib.Core.List.{List, [], _∷_, append-nil}
@@ -16,18 +16,19 @@ use Rattle.gap.proofs.Laws.Tests.{clash}
 use Rattle.editor.specs.Words.{Direction, Left, Right, Action, Move, Delete, Mode, Main, Quoted}
 use Rattle.editor.specs.Words.{Place, Character, Word, LineBeginning, LineEnding, Document}
 use Rattle.editor.specs.Words.{Key, Insert, Function, Recall, Quote, Find, Replace, Mark, Cut, Paste, Newline, Tab}
-use Rattle.editor.specs.Rules.Refusals.{KEY, FULL}
+use Rattle.editor.specs.Rules.Refusals.{KEY, FULL, LINE}
 use Rattle.editor.specs.Rules.Plain.{Side, Plain, Did, refused, done}
-use Rattle.editor.specs.Rules.Keys.{Unsound, notAllowed, leftToEnding, rightToBeginning, markInQuoted, cutInQuoted, pasteInQuoted, Exceeds}
+use Rattle.editor.specs.Rules.Keys.{Unsound, notAllowed, leftToEnding, rightToBeginning, markInQuoted, cutInQuoted, pasteInQuoted, Exceeds, LongLine}
 use Rattle.editor.specs.Rules.Indents.{leftward, insertedRun, indentedLine, newlined, spacesToTab, tabbed}
 use Rattle.editor.specs.Rules.Keys.{soundFunction, soundKey, inserted, recalled, sideOf, onSide}
-use Rattle.editor.specs.Rules.Keys.{matches, withReplacement, substituted, replaced, markedHere, pasted, acted, pressed, key}
+use Rattle.editor.specs.Rules.Keys.{matches, withReplacement, substituted, replaced, markedHere, pasted, acted, pressed, fits, key}
 use Rattle.editor.proofs.Laws.Room.{holds, fits-not, fits-within, keeps-within, on-side-exceeds, length-put, substituted-exceeds}
-use Rattle.editor.proofs.Laws.Outcomes.{key-refused, full-refused, accepted, refusal-number}
+use Rattle.editor.proofs.Laws.LongLines.{readable-not, readable-within}
+use Rattle.editor.proofs.Laws.Outcomes.{key-refused, full-refused, line-refused, accepted, refusal-number}
 use Rattle.editor.specs.Rules.Bytes.{SoundTexts}
-use Rattle.editor.proofs.Laws.Keeps.{texts-kept}
-use Rattle.editor.proofs.Laws.MarkedStates.{marked-sound, cut-sound}
-use Rattle.editor.proofs.Laws.States.{limit, function-sound, quoted-sound, found-sound, with-replacement-sound}
+use Rattle.editor.proofs.Laws.Keeps.{fits-acted}
+use Rattle.editor.proofs.Laws.MarkedStates.{marked-sound, cut-fits}
+use Rattle.editor.proofs.Laws.States.{limit, sound-fits, function-fits, quoted-sound, found-sound, with-replacement-sound}
 
 unsound-function : (action : Action) (way : Direction) (place : Place) → soundFunction action way place ≡ false
     → {mode : Mode} → Unsound mode (Function action way place)
@@ -76,21 +77,31 @@ key-sound : (mode : Mode) (k : Key) → (soundKey mode k ≡ true) ↔ (¬ Unsou
 key-sound mode k = holds (soundKey mode k) (key-unsound mode k)
 
 module _ (T Q : ℕ) (k : Key) (p : Plain) where
-  -- KEY and FULL exactly when the table says.
+  -- KEY, FULL and LINE exactly when the table says, in this order.
   pub refused-key : (key T Q k p ≡ refused KEY) ↔ Unsound (p .mode) k
   refused-key = Iff·trans (key-refused T Q k p) (key-unsound (p .mode) k)
 
   pub refused-full : (key T Q k p ≡ refused FULL) ↔ ((¬ Unsound (p .mode) k) × Exceeds T Q (pressed k p .state))
   refused-full = Iff·trans (full-refused T Q k p) (Iff·and (key-sound (p .mode) k) (fits-not T Q (pressed k p .state)))
 
-  -- There is no other refusal: the number is KEY or FULL, and a key that gets neither is done.
-  pub refused-number : (n : ℕ) → key T Q k p ≡ refused n → (n ≡ KEY) ⊎ (n ≡ FULL)
+  pub refused-line : (key T Q k p ≡ refused LINE) ↔ ((¬ Unsound (p .mode) k) × (¬ Exceeds T Q (pressed k p .state)) × LongLine (pressed k p .state))
+  refused-line =
+      let after = pressed k p .state in (
+        λ e. let (ok, room, long) = line-refused T Q k p .0 e in (key-sound (p .mode) k .0 ok, fits-within T Q after .0 room, readable-not after .0 long),
+        λ (good, within, long). line-refused T Q k p .1 (key-sound (p .mode) k .1 good, fits-within T Q after .1 within, readable-not after .1 long),
+      )
+
+  -- There is no other refusal: the number is KEY, FULL or LINE, and a key that gets none of them is done.
+  pub refused-number : (n : ℕ) → key T Q k p ≡ refused n → (n ≡ KEY) ⊎ ((n ≡ FULL) ⊎ (n ≡ LINE))
   refused-number n e = refusal-number T Q k p n e
 
-  pub done-otherwise : (key T Q k p ≡ done (pressed k p)) ↔ ((¬ Unsound (p .mode) k) × (¬ Exceeds T Q (pressed k p .state)))
+  pub done-otherwise : (key T Q k p ≡ done (pressed k p))
+      ↔ ((¬ Unsound (p .mode) k) × (¬ Exceeds T Q (pressed k p .state)) × (¬ LongLine (pressed k p .state)))
   done-otherwise = (
-    λ e. let (ok, room, same) = accepted T Q k p (pressed k p) .0 e in (key-sound (p .mode) k .0 ok, fits-within T Q (pressed k p .state) .0 room),
-    λ (good, within). accepted T Q k p (pressed k p) .1 (key-sound (p .mode) k .1 good, fits-within T Q (pressed k p .state) .1 within, refl),
+    λ e. let (ok, room, lines, same) = accepted T Q k p (pressed k p) .0 e in
+        (key-sound (p .mode) k .0 ok, fits-within T Q (pressed k p .state) .0 room, readable-within (pressed k p .state) .0 lines),
+    λ (good, within, short). accepted T Q k p (pressed k p) .1
+        (key-sound (p .mode) k .1 good, fits-within T Q (pressed k p .state) .1 within, readable-within (pressed k p .state) .1 short, refl),
   )
 
 -- For a sound key only the finished texts count.
@@ -98,30 +109,30 @@ full-when : (T Q : ℕ) (k : Key) (p : Plain) → soundKey (p .mode) k ≡ true 
 full-when T Q k p ok = (λ e. refused-full T Q k p .0 e .1, λ over. refused-full T Q k p .1 (key-sound (p .mode) k .0 ok, over))
 
 module _ (T Q : ℕ) (p : Plain) (sound : SoundTexts T Q p) where
-  never-full : (k : Key) → SoundTexts T Q (acted k p .state) → ¬ (key T Q k p ≡ refused FULL)
-  never-full k after e = keeps-within T Q (pressed k p .state) (texts-kept T Q k p after) (refused-full T Q k p .0 e .1)
+  never-full : (k : Key) → fits T Q (acted k p .state) ≡ true → ¬ (key T Q k p ≡ refused FULL)
+  never-full k room e = clash (fits-acted T Q k p ∙ room) (full-refused T Q k p .0 e .1)
 
   -- Moves, deletions, QUOTE, FIND and UPFIND are never refused as FULL.
   pub function-never-full : (action : Action) (way : Direction) (place : Place) → ¬ (key T Q (Function action way place) p ≡ refused FULL)
   unfolding acted
-  function-never-full action way place = never-full (Function action way place) (function-sound T Q action way place p sound)
+  function-never-full action way place = never-full (Function action way place) (function-fits T Q action way place p sound)
 
   pub quote-never-full : ¬ (key T Q Quote p ≡ refused FULL)
   unfolding acted
-  quote-never-full = never-full Quote (quoted-sound T Q p sound)
+  quote-never-full = never-full Quote (sound-fits T Q _ (quoted-sound T Q p sound))
 
   pub find-never-full : (way : Direction) → ¬ (key T Q (Find way) p ≡ refused FULL)
   unfolding acted
-  find-never-full way = never-full (Find way) (found-sound T Q way p sound)
+  find-never-full way = never-full (Find way) (sound-fits T Q _ (found-sound T Q way p sound))
 
   -- MARK and CUT never either. (02, M-101: FULL for PASTE alone.)
   pub mark-never-full : ¬ (key T Q Mark p ≡ refused FULL)
   unfolding acted markedHere
-  mark-never-full = never-full Mark (marked-sound T Q _ p sound)
+  mark-never-full = never-full Mark (sound-fits T Q _ (marked-sound T Q _ p sound))
 
   pub cut-never-full : ¬ (key T Q Cut p ≡ refused FULL)
   unfolding acted
-  cut-never-full = never-full Cut (cut-sound T Q (p .mark) p sound)
+  cut-never-full = never-full Cut (cut-fits T Q (p .mark) p sound)
 
   -- An edit that puts x around the cursor wants room for x.
   put-full : let s = sideOf (p .mode) p in
@@ -187,4 +198,4 @@ module _ (T Q : ℕ) (p : Plain) (sound : SoundTexts T Q p) where
   pub replace-unmatched : let q = withReplacement (p .mode) p in
       matches (q .pattern) (q .main .text) ≡ false → ¬ (key T Q Replace p ≡ refused FULL)
   unfolding acted replaced substituted
-  replace-unmatched match = never-full Replace (rw match (with-replacement-sound T Q (p .mode) p sound))
+  replace-unmatched match = never-full Replace (rw match (sound-fits T Q _ (with-replacement-sound T Q (p .mode) p sound)))

@@ -7,17 +7,19 @@ use native.Mathlib.Omega.{arith}
 use lib.ListN.{take, length-take}
 use Rattle.gap.specs.Rules.Sequence.{every}
 use Rattle.gap.specs.Rules.Layout.{allowed}
+use Rattle.gap.specs.Rules.LineLimits.{linesFit}
 use Rattle.editor.specs.Words.{Key}
 use Rattle.editor.specs.Rules.Plain.{Plain, opening, Did, Outcome, refused, done}
-use Rattle.editor.specs.Rules.Keys.{fits, key, after, keys}
+use Rattle.editor.specs.Rules.LongLines.{longestLine}
+use Rattle.editor.specs.Rules.Keys.{key, after, keys}
 use Rattle.editor.proofs.Laws.Keeps as law
 use Rattle.gap.proofs.Laws.Holdable.{empty-holdable, right-holdable}
 use Rattle.editor.specs.Rules.Bytes.{SoundPlain}
 
--- Where n fits and the first n bytes are allowed, opening gives a session.
-pub opening-sound : (T Q n : ℕ) (text : List ℕ) → n ≤ T → every allowed (take n text) ≡ true
+-- Where n fits, the first n bytes are allowed, and the reader takes their lines, opening gives a session.
+pub opening-sound : (T Q n : ℕ) (text : List ℕ) → n ≤ T → every allowed (take n text) ≡ true → linesFit longestLine (take n text) ≡ true
     → SoundPlain T Q (opening (take n text))
-opening-sound T Q n text fits bytes =
+opening-sound T Q n text fits bytes lines =
     record {
       texts = record {
         text = right-holdable T (take n text) (simp length-take (omega arith)) bytes;
@@ -31,6 +33,7 @@ opening-sound T Q n text fits bytes =
         itsHalf = refl;
         heldHalf = refl;
         mode = refl;
+        lines = lines;
       };
       mark = refl;
     }

@@ -3,10 +3,12 @@
 use Rattle.editor.specs.Words.{List, [], _++_, Bool, true, _&&_, _||_, ℕ, _*_, eqb, _+_, leb, length, Mode, Main, Quoted, Unmarked, Sizes, Lengths}
 use mathlib.Core.Path.{_≡_}
 use Rattle.gap.specs.Rules.Sequence.{part}
-use Rattle.gap.specs.Rules.Doc.{Doc}
+use Rattle.gap.specs.Rules.Doc.{Doc, content}
+use Rattle.gap.specs.Rules.LineLimits.{linesFit}
 use Rattle.gap.specs.Rules.Layout.{gapped, paired, ungap, unpair, soundGap, soundPair, Holdable}
 use Rattle.editor.specs.declared.EditorReply.{EditorReply}
 use Rattle.editor.specs.Rules.Plain.{Side, Plain, holding, quiet, Outcome, refused, done}
+use Rattle.editor.specs.Rules.LongLines.{longestLine, readable}
 use Rattle.editor.specs.Rules.Marks.{markWithin}
 
 -- The stores that the editor works on; the screen is the window's.
@@ -113,10 +115,11 @@ unquoted Main n = (eqb (n .l) 0 && eqb (n .r) 0) && (eqb (n .rl) 0 && eqb (n .rr
 unquoted Quoted n = true
 
 -- All that a session asks but for the cursor on the screen. A replacement may have both halves. (01, session. DECISIONS B20. 02, M-101: the
--- held pair under the recall pair's rule, and the mark within the document.)
+-- held pair under the recall pair's rule, and the mark within the document. M-106: a session needs it too, of the document's lines.)
 unfoldable pub editorOk : ℕ → Lengths → Stores → Bool
 editorOk Q n b =
-    (soundGap (n .main .l) (n .main .r) (b .text) && soundPair (n .main .rl) (n .main .rr) (b .recall))
+    ((soundGap (n .main .l) (n .main .r) (b .text) && linesFit longestLine (content (ungap (n .main .l) (n .main .r) (b .text))))
+    && soundPair (n .main .rl) (n .main .rr) (b .recall))
     && ((soundGap (n .quoted .l) (n .quoted .r) (quarterOf Q 0 (b .side)) && soundPair (n .quoted .rl) (n .quoted .rr) (quarterOf Q 1 (b .side)))
     && ((soundPair (n .pl) 0 (quarterOf Q 2 (b .side)) && soundPair (n .xl) (n .xr) (quarterOf Q 3 (b .side)))
     && ((soundPair (n .hl) (n .hr) (b .held) && markWithin (n .main .l + n .main .r) (n .mark))
@@ -140,7 +143,7 @@ editedTo Q n b (done did) =
     }
 
 -- What makes the texts of a plain state a session's: each fits its store with allowed bytes, of each recall pair and of the held pair one half is
--- empty, and in MAIN there is no quotation. (01, session. 02, M-101.)
+-- empty, and in MAIN there is no quotation; the reader takes every line of the document. (01, session. 02, M-101, M-106.)
 pub record SoundTexts (T Q : ℕ) (p : Plain) : Type 0 where
   pub text : Holdable T (p .main .text)
   pub recall : Holdable T (p .main .recall)
@@ -153,6 +156,7 @@ pub record SoundTexts (T Q : ℕ) (p : Plain) : Type 0 where
   pub itsHalf : oneHalf (sizesOf (p .quoted)) ≡ true
   pub heldHalf : oneHalf (sizesOf (holding p)) ≡ true
   pub mode : unquoted (p .mode) (sizesOf (p .quoted)) ≡ true
+  pub lines : readable longestLine p ≡ true
 
 -- And what makes it a session's plain state: the mark lies within the document besides.
 pub record SoundPlain (T Q : ℕ) (p : Plain) : Type 0 where

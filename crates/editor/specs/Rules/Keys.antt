@@ -7,15 +7,18 @@ use Rattle.editor.specs.Words.{Key, Insert, Function, Recall, Quote, Fin
 use mathlib.Core.Path.{_≡_}
 use mathlib.Core.Logic.{_⊎_}
 use Prim.Native.Nat.{_<_}
+use lib.ListN.{getD}
 use Rattle.gap.specs.Rules.Sequence.{begins}
 use Rattle.gap.specs.Rules.Doc.{Doc, content, move, delete, times, removed, splice}
+use Rattle.gap.specs.Rules.Lines.{lines}
 use Rattle.gap.specs.Rules.Layout.{allowed}
 use Rattle.editor.specs.Rules.Places.{isAt}
 use Rattle.editor.specs.Rules.Passages.{passageTo}
 use Rattle.editor.specs.Rules.Marks.{Change, unchanged, putting, taking, markChanged, wayTo, farTo}
 use Rattle.editor.specs.Rules.Plain.{Side, emptySide, Plain, holding, quiet, rang, went, Did, reporting, within, Outcome, refused, done}
+use Rattle.editor.specs.Rules.LongLines.{longestLine, readable}
 use Rattle.editor.specs.Rules.Indents.{leftward, indentedLine, newlined, spacesToTab, tabbed}
-use Rattle.editor.specs.Rules.Refusals.{KEY, FULL}
+use Rattle.editor.specs.Rules.Refusals.{KEY, FULL, LINE}
 
 -- Of the twenty function keys two are never carried out. (01, refusals: KEY.)
 abbrev pub soundFunction : Action → Direction → Place → Bool
@@ -279,9 +282,9 @@ pressed k p = followed k p (acted k p)
 unfoldable pub fits : ℕ → ℕ → Plain → Bool
 fits T Q p = leb (length (content (p .main .text))) T && leb (length (content (p .quoted .text))) Q
 
--- What the finished texts are asked, in order.
+-- What the finished texts are asked, in order. (02, M-106: for a key after FULL.)
 abbrev pub finishedChecks : ℕ → ℕ → Plain → List Check
-finishedChecks T Q p = check FULL (fits T Q p) ∷ []
+finishedChecks T Q p = check FULL (fits T Q p) ∷ check LINE (readable longestLine p) ∷ []
 
 unfoldable pub bounded : ℕ → ℕ → Did Plain → Outcome
 bounded T Q did = unless (finishedChecks T Q (did .state)) refused (done did)
@@ -299,7 +302,7 @@ unfoldable pub keys : ℕ → ℕ → List Key → Plain → Plain
 keys T Q [] p = p
 keys T Q (k ∷ ks) p = keys T Q ks (after p (key T Q k p))
 
--- ---- The two refusals in words
+-- ---- The refusals in words
 
 -- 01, KEY: an insert of a byte that is not allowed, a deletion left to a line ending, a deletion right to a line beginning. 02, M-101: MARK, CUT
 -- and PASTE in QUOTED.
@@ -314,3 +317,7 @@ pub data Unsound : Mode → Key → Type 0 where
 -- 01, FULL: the finished document would exceed T, or the finished quotation Q.
 abbrev pub Exceeds : ℕ → ℕ → Plain → Type 0
 Exceeds T Q p = (T < length (content (p .main .text))) ⊎ (Q < length (content (p .quoted .text)))
+
+-- 02, M-106, LINE: the finished document would have a line of more than 1,024 bytes, the line with this index.
+abbrev pub LongLine : Plain → Type 0
+LongLine p = (i : ℕ) × (longestLine < length (getD (lines (content (p .main .text))) i []))

@@ -1,7 +1,7 @@
 -- The refusals by number and name. In which order a call gives them is a list of checks (gap/specs/Rules/Checks). (01, refusal numbers.)
 use Rattle.editor.specs.Words.{ℕ}
 
--- 01, the table of refusals; 7 is M-100's.
+-- 01, the table of refusals; 7 is M-100's, 8 M-106's.
 abbrev pub SIZE : ℕ
 SIZE = 1
 
@@ -22,3 +22,6 @@ FULL = 6
 
 abbrev pub ROOM : ℕ
 ROOM = 7
+
+abbrev pub LINE : ℕ
+LINE = 8

@@ -1,12 +1,11 @@
 -- How the promises of the functions about the mark speak: the record with another mark or held text, and what a key changes, in numbers.
 use mathlib.Core.Path.{_≡_}
 use Prim.Native.Nat.{_≤_}
-use Rattle.editor.specs.Words.{Bool, true, false, cond, ℕ, _+_, _-_, Direction, Left, Right, Mode, Main, Quoted, Marking, Move, Delete}
+use Rattle.editor.specs.Words.{Bool, true, false, cond, ℕ, _+_, _-_, eqb, Direction, Left, Right, Mode, Main, Quoted, Marking, Move, Delete}
 use Rattle.editor.specs.Words.{Key, Insert, Function, Recall, Quote, Find, Replace, Mark, Cut, Paste, Newline, Tab}
 use Rattle.editor.specs.Words.{Sizes, Lengths, Report, Exchange}
 use Rattle.editor.specs.declared.SideReply.{SideReply}
 use Rattle.editor.specs.declared.EditorReply.{EditorReply}
-use Rattle.editor.specs.Rules.Refusals.{FULL}
 use Rattle.editor.specs.Rules.Marks.{markThrough, markWithin}
 use Rattle.editor.specs.Rules.Bytes.{unedited}
 
@@ -39,8 +38,10 @@ heldIn m n =
       mark = n .mark;
     }
 
-abbrev pub heldReply : Lengths → SideReply → EditorReply
-heldReply n t = cond (t .full) (unedited FULL n) (record { code = 0; report = t .report; lengths = heldIn (t .sizes) n })
+-- The reply of such a key: refused, or done with a mark.
+abbrev pub heldReply : Lengths → Marking → SideReply → EditorReply
+heldReply n mark t =
+    cond (eqb (t .code) 0) (record { code = 0; report = t .report; lengths = heldIn (t .sizes) (markedAt mark n) }) (unedited (t .code) n)
 
 -- What a key changes of the document, by the lengths before it, its report and the lengths behind it (changeOf in Rules/Keys). CUT leaves no mark
 -- that could move.

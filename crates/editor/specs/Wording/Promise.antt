@@ -1,20 +1,23 @@
 -- How the promises of this layer's functions speak: what they ask of lent stores, and their outcome as one value.
 use mathlib.Core.Path.{_≡_}
 use Prim.Native.Nat.{_≤_}
-use Rattle.editor.specs.Words.{List, Bool, true, false, cond, ℕ, _+_, _-_, _*_, leb, length, take, Direction, Left, Right, Search}
+use Rattle.editor.specs.Words.{List, [], _∷_, Bool, true, cond, ℕ, _+_, _-_, _*_, eqb, leb, length, take, Direction, Left, Right, Search}
 use Rattle.editor.specs.Words.{Mode, Main, Quoted, Sizes, Lengths, Report}
 use Rattle.gap.specs.declared.Search.the-variants as found
 use Rattle.gap.specs.Rules.Sequence.{patch, zeros}
-use Rattle.gap.specs.Rules.Doc.{content}
+use Rattle.gap.specs.Rules.Checks.{Check, check, unless}
+use Rattle.gap.specs.Rules.Doc.{Doc, content}
+use Rattle.gap.specs.Rules.LineLimits.{linesFit}
 use Rattle.gap.specs.Rules.Layout.{gapped, paired, ungap, unpair, IsGap, IsPair}
 use Rattle.editor.specs.declared.Edit.{Edit}
 use Rattle.editor.specs.declared.Edit.the-variants as edits
 use Rattle.editor.specs.declared.SideReply.{SideReply}
 use Rattle.editor.specs.declared.EditorReply.{EditorReply}
-use Rattle.editor.specs.Rules.Refusals.{FULL}
+use Rattle.editor.specs.Rules.Refusals.{FULL, LINE}
 use Rattle.editor.specs.Rules.Plain.{Side, Plain, opening, quiet, Did, Outcome}
+use Rattle.editor.specs.Rules.LongLines.{longestLine, readable}
 use Rattle.editor.specs.Rules.Indents.{newlined, tabbed}
-use Rattle.editor.specs.Rules.Keys.{inserted, function, recalled, matches, substituted, fits}
+use Rattle.editor.specs.Rules.Keys.{inserted, function, recalled, matches, substituted, replaced, fits}
 use Rattle.editor.specs.Rules.Bytes.{Stores, quarter, quarterOf, sized, sizesOf, plainOf, lengthsOf, storesOf, editorOk, unedited, editedTo, noSizes}
 
 -- ---- One side
@@ -32,21 +35,27 @@ abbrev pub movedBy : Direction → ℕ → Sizes → Sizes
 movedBy Left d n = record { l = n .l - d; r = n .r + d; rl = n .rl; rr = n .rr }
 movedBy Right d n = record { l = n .l + d; r = n .r - d; rl = n .rl; rr = n .rr }
 
--- Two stores of one length hold a side with these sizes.
-pub record OnSide (n : Sizes) (text recall : List ℕ) : Type 0 where
+-- Two stores of one length hold a side with these sizes, and no line of its text is longer than a limit.
+pub record OnSide (limit : ℕ) (n : Sizes) (text recall : List ℕ) : Type 0 where
   pub gap : IsGap (n .l) (n .r) text
   pub pair : IsPair (n .rl) (n .rr) recall
   pub same : length recall ≡ length text
+  pub lines : linesFit limit (content (ungap (n .l) (n .r) text)) ≡ true
+
+-- Each half of a text by itself has no line longer than a limit.
+pub record HalvesFit (limit : ℕ) (d : Doc) : Type 0 where
+  pub before : linesFit limit (d .l) ≡ true
+  pub behind : linesFit limit (d .r) ≡ true
 
 abbrev pub sideHeld : Sizes → List ℕ → List ℕ → Side
 sideHeld n text recall = record { text = ungap (n .l) (n .r) text; recall = unpair (n .rl) (n .rr) recall }
 
--- The replies of a key that is refused as full, and of one that is done.
-abbrev pub fullReply : Sizes → SideReply
-fullReply n = record { full = true; report = quiet; sizes = n }
+-- The replies of a key that is refused with a number, and of one that is done.
+abbrev pub refusedReply : ℕ → Sizes → SideReply
+refusedReply code n = record { code = code; report = quiet; sizes = n }
 
 abbrev pub doneReply : Report → Sizes → SideReply
-doneReply report m = record { full = false; report = report; sizes = m }
+doneReply report m = record { code = 0; report = report; sizes = m }
 
 -- What a key on one side gives: its reply and the two stores.
 pub record SideEdited : Type 0 where
@@ -54,25 +63,28 @@ pub record SideEdited : Type 0 where
   pub text : List ℕ
   pub recall : List ℕ
 
--- The edit's outcome written down, or everything as it was where the finished text exceeds its store.
-unfoldable pub written : Sizes → List ℕ → List ℕ → Did Side → SideEdited
-written n text recall did =
-    cond (leb (length (content (did .state .text))) (length text))
+-- What the finished text of a side is asked, in order: that it does not exceed its store, and that no line is longer than a limit.
+abbrev pub sideChecks : ℕ → List ℕ → Doc → List Check
+sideChecks limit text d = check FULL (leb (length (content d)) (length text)) ∷ check LINE (linesFit limit (content d)) ∷ []
+
+-- The edit's outcome written down, or everything as it was where a check fails.
+unfoldable pub written : ℕ → Sizes → List ℕ → List ℕ → Did Side → SideEdited
+written limit n text recall did =
+    unless (sideChecks limit text (did .state .text)) (λ code. record { reply = refusedReply code n; text = text; recall = recall })
     (record {
       reply = doneReply (did .report) (sizesOf (did .state));
       text = gapped (length text) (did .state .text);
       recall = paired (length recall) (did .state .recall);
     })
-    (record { reply = fullReply n; text = text; recall = recall })
 
 -- A function on one side does what the plain edit does: its reply and both stores are determined.
-abbrev pub EditsSide : SideReply → Sizes → (Side → Did Side) → (text recall textThen recallThen : List ℕ) → Type 0
-EditsSide t n edit text recall textThen recallThen =
-    record { reply = t; text = textThen; recall = recallThen } ≡ written n text recall (edit (sideHeld n text recall))
+abbrev pub EditsSide : ℕ → SideReply → Sizes → (Side → Did Side) → (text recall textThen recallThen : List ℕ) → Type 0
+EditsSide limit t n edit text recall textThen recallThen =
+    record { reply = t; text = textThen; recall = recallThen } ≡ written limit n text recall (edit (sideHeld n text recall))
 
 -- One that is lent the text alone does the same, whatever recall text the side has: that stays.
-abbrev pub EditsText : SideReply → Sizes → (Side → Did Side) → (text textThen : List ℕ) → Type 0
-EditsText t n edit text textThen = (recall : List ℕ) → OnSide n text recall → EditsSide t n edit text recall textThen recall
+abbrev pub EditsText : ℕ → SideReply → Sizes → (Side → Did Side) → (text textThen : List ℕ) → Type 0
+EditsText limit t n edit text textThen = (recall : List ℕ) → OnSide limit n text recall → EditsSide limit t n edit text recall textThen recall
 
 -- What each edit does on a side.
 abbrev pub editing : Edit → Side → Did Side
@@ -178,7 +190,7 @@ replacementTaken Quoted n =
       mark = n .mark;
     }
 
--- What a key on a side makes of the lengths: refused as full, or its sizes put in.
+-- What a key on a side makes of the lengths: refused, or its sizes put in.
 abbrev pub sizedIn : Mode → Sizes → Lengths → Lengths
 sizedIn Main m n =
     record {
@@ -207,7 +219,7 @@ sizedIn Quoted m n =
 
 abbrev pub replyOf : Mode → Lengths → SideReply → EditorReply
 replyOf mode n t =
-    cond (t .full) (unedited FULL n) (record { code = 0; report = t .report; lengths = sizedIn mode (t .sizes) n })
+    cond (eqb (t .code) 0) (record { code = 0; report = t .report; lengths = sizedIn mode (t .sizes) n }) (unedited (t .code) n)
 
 -- ---- Searches and quotations
 
@@ -225,14 +237,26 @@ handed Q Main n at side = side
 handed Q Quoted n at side =
     patch 0 (zeros (2 * Q)) (patch at (paired Q (ungap (n .l) (n .r) (quarterOf Q 0 side))) side)
 
--- What is known before a substitution: whether the pattern stands here, and that the finished text fits.
+-- What is known before a substitution: whether the pattern stands here, that the finished text fits, and that its lines do.
 pub record Substitutes (here : Bool) (T : ℕ) (p : Plain) : Type 0 where
   pub known : here ≡ matches (p .pattern) (p .main .text)
   pub room : fits T quarter (substituted p .state) ≡ true
+  pub lines : readable longestLine (substituted p .state) ≡ true
 
 abbrev pub SubstitutesUnheld : Bool → Lengths → (text recall side : List ℕ) → Type 0
 SubstitutesUnheld here n text recall side =
     (held : List ℕ) × Sound quarter n (stores text recall held side) × Substitutes here (length text) (plainOf quarter n (stores text recall held side))
+
+-- What is known before REPLACE's test of lines; and its answer, whatever recall text and held text there are.
+abbrev pub Exchanges : Bool → Lengths → (text side : List ℕ) → Type 0
+Exchanges here n text side =
+    (recall : List ℕ) × (held : List ℕ) × Sound quarter n (stores text recall held side)
+    × (let p = plainOf quarter n (stores text recall held side) in here ≡ matches (p .pattern) (p .main .text))
+
+abbrev pub ReadableExchanged : Bool → Lengths → (text side : List ℕ) → Type 0
+ReadableExchanged ok n text side =
+    (recall held : List ℕ) → Sound quarter n (stores text recall held side)
+    → ok ≡ readable longestLine (replaced (plainOf quarter n (stores text recall held side)) .state)
 
 -- The distance over all of a text of n bytes.
 abbrev pub wholeOf : ℕ → Search

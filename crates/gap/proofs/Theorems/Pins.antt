@@ -11,9 +11,11 @@ use Rattle.gap.specs.Rules.Indents.{spaces, leading, indent}
 use Rattle.gap.specs.Rules.Layout.{gapped, paired, ungap, unpair, soundGap, soundPair}
 use Rattle.gap.specs.Rules.Decimal.{valueAfter, isNumber, numberOf, digitsIn, decimal}
 use Rattle.gap.specs.Rules.Fields.{lineOf, lineAt, endAt, nextAt, lineNumber, fieldOf, headerAt, entry}
+use Rattle.gap.specs.Rules.LineLimits.{noneLonger, linesFit, longLine}
+use Rattle.gap.specs.Wording.LinesAfter.{linesFitAfter}
 use Rattle.gap.specs.Tables.Sentence.{allOf, broken, itself}
 use Rattle.gap.specs.Tables.Written.{markedAfter, storedAs}
-use Rattle.gap.specs.Tables.Pins.{sequencePins, documentPins, linePins, storePins, numberPins}
+use Rattle.gap.specs.Tables.Pins.{sequencePins, documentPins, linePins, storePins, numberPins, limitPins}
 
 pub sequences-pinned : broken itself sequencePins ≡ []
 unfolding every sameBytes begins part patch zeros counted bytes firstFailed allOf broken
@@ -35,3 +37,7 @@ pub numbers-pinned : broken itself numberPins ≡ []
 unfolding every sameBytes begins bytes newlines valueAfter isNumber numberOf digitsIn decimal lineOf lineAt endAt nextAt lineNumber fieldOf
     headerAt entry allOf broken
 numbers-pinned = refl
+
+pub limits-pinned : broken itself limitPins ≡ []
+unfolding bytes nearest lines lineOf lineAt noneLonger linesFit longLine linesFitAfter allOf broken
+limits-pinned = refl

@@ -11,6 +11,8 @@ use Rattle.gap.specs.Rules.Indents.{space, spaces, leading, currentLine,
 use Rattle.gap.specs.Rules.Layout.{printable, allowed, free, spare, gapped, paired, ungap, unpair, soundGap, soundPair}
 use Rattle.gap.specs.Rules.Decimal.{digit, worth, value, isNumber, numberOf, wordDigits, decimal}
 use Rattle.gap.specs.Rules.Fields.{lineOf, lineAt, endAt, ended, nextAt, lineNumber, fieldOf, headerAt, entry}
+use Rattle.gap.specs.Rules.LineLimits.{noneLonger, linesFit, beginsLine, longLine}
+use Rattle.gap.specs.Wording.LinesAfter.{linesFitAfter}
 use Rattle.gap.specs.Tables.Sentence.{Sentence, sentence}
 use Rattle.gap.specs.Tables.Written.{marked, stored, isBytes, isStore, isDoc, isReached, isNowhere, isRead, isUnreadable}
 
@@ -273,5 +275,51 @@ numberPins =
     ∷ [])
     ∷ []
 
+-- ---- Lines against a limit
+
+abbrev pub limitPins : List (Sentence Bool)
+limitPins =
+    sentence "M-106: no line has more bytes than the limit, newline not counted; as many are good"
+    (linesFit 3 (bytes "abc")
+    ∷ linesFit 3 (bytes "abc\n")
+    ∷ linesFit 3 (bytes "abc\nabc\nabc")
+    ∷ linesFit 3 (bytes "ab\n\n\nc\n\n")
+    ∷ linesFit 3 []
+    ∷ linesFit 0 []
+    ∷ linesFit 0 (bytes "\n\n")
+    ∷ not (linesFit 0 (bytes "a"))
+    ∷ not (linesFit 3 (bytes "abcd"))
+    ∷ not (linesFit 3 (bytes "abcd\nabc"))
+    ∷ not (linesFit 3 (bytes "a\nabcd\nb"))
+    ∷ not (linesFit 3 (bytes "abc\n\nabcd"))
+    ∷ noneLonger 3 []
+    ∷ noneLonger 3 (bytes "abc" ∷ [] ∷ bytes "ab" ∷ [])
+    ∷ not (noneLonger 3 (bytes "abc" ∷ bytes "abcd" ∷ []))
+    ∷ [])
+    ∷ sentence "M-106: the place of the first byte of the first such line"
+    (isReached (longLine 3 (bytes "abcd")) 0
+    ∷ isReached (longLine 3 (bytes "ab\nabcd\nabcde")) 3
+    ∷ isReached (longLine 3 (bytes "\nabcde")) 1
+    ∷ isReached (longLine 3 (bytes "abcd\nabcd")) 0
+    ∷ isReached (longLine 0 (bytes "\na")) 1
+    ∷ isNowhere (longLine 3 (bytes "abc\nabc\n"))
+    ∷ isNowhere (longLine 3 [])
+    ∷ beginsLine (bytes "ab\nc") 0
+    ∷ not (beginsLine (bytes "ab\nc") 1)
+    ∷ not (beginsLine (bytes "ab\nc") 2)
+    ∷ beginsLine (bytes "ab\nc") 3
+    ∷ beginsLine (bytes "a\n\n") 3
+    ∷ beginsLine [] 0
+    ∷ [])
+    ∷ sentence "what stands before a text on its first line counts on that line alone"
+    (linesFitAfter 3 2 (bytes "a\nabc")
+    ∷ linesFitAfter 3 3 []
+    ∷ linesFitAfter 3 3 (bytes "\nabc")
+    ∷ not (linesFitAfter 3 3 (bytes "a\nb"))
+    ∷ not (linesFitAfter 3 4 [])
+    ∷ not (linesFitAfter 3 0 (bytes "a\nabcd"))
+    ∷ [])
+    ∷ []
+
 abbrev pub pins : List (Sentence Bool)
-pins = sequencePins ++ (documentPins ++ (linePins ++ (storePins ++ numberPins)))
+pins = sequencePins ++ (documentPins ++ (linePins ++ (storePins ++ (numberPins ++ limitPins))))

@@ -295,7 +295,10 @@ module _ (s : Session) (k : Key) (b : Lent) (fit : tabled (s .frame .h) (s .fram
   done-so (refused code) outcome e zero-code =
       let number = refusal-number (T (b .stores)) quarter k (held s (b .stores)) code outcome in
       let same = refused-reply (s .lengths) (b .stores) after r code e .0 in
-      absurd (⊎-elim (λ is-key. omega (arith, is-key, same)) (λ is-full. omega (arith, is-full, same)) number)
+      absurd
+      (⊎-elim (λ is-key. omega (arith, is-key, same))
+      (λ other. ⊎-elim (λ is-full. omega (arith, is-full, same)) (λ is-line. omega (arith, is-line, same)) other)
+      number)
   done-so (done did) outcome e zero-code =
       let (lengths, same, report) = done-reply (s .lengths) (b .stores) after r did e in
       let facts = tabled-facts (s .frame .h) (s .frame .w) b fit in
@@ -305,7 +308,7 @@ module _ (s : Session) (k : Key) (b : Lent) (fit : tabled (s .frame .h) (s .fram
       let state = ap₂ (plainOf quarter) lengths same ∙ plain-of-encoded (T (b .stores)) quarter (did .state) (kept .texts) in
       let long = ap T same ∙ length-gapped (T (b .stores)) (did .state .main .text) (kept .texts .text .fits) in
       let o = shown (s .frame) (record { stores = after; screen = b .screen }) did in
-      let (sound-key, room, did-so) = accepted (T (b .stores)) quarter k (held s (b .stores)) did .0 outcome in
+      let (sound-key, room, lines, did-so) = accepted (T (b .stores)) quarter k (held s (b .stores)) did .0 outcome in
       let p = held s (b .stores) in
       let n = s .lengths .main in
       let document = fitting quarter (s .lengths) (b .stores) (session-sound s b fit ok) .document in

@@ -16,7 +16,7 @@ use Rattle.gap.specs.Rules.Lines.{newlines, sinceAfter}
 use Rattle.gap.specs.Rules.Layout.{allowed, gapped, ungap}
 use Rattle.gap.proofs.Laws.Tests.{and-left, and-right, cond-true, cond-false}
 use Rattle.gap.proofs.Laws.Layout.{length-gapped, ungap-gapped}
-use Rattle.editor.specs.Rules.Refusals.{SIZE, LONG, TEXT}
+use Rattle.editor.specs.Rules.Refusals.{SIZE, LONG, TEXT, LINE}
 use Rattle.editor.specs.Rules.Plain.{quiet}
 use Rattle.gap.proofs.Laws.Nearest.{nearest-same}
 use Rattle.editor.specs.Rules.Bytes.{quarter, lengthsOf, storesOf, openingLengths}
@@ -27,7 +27,7 @@ use Rattle.window.specs.declared.Rows.{Rows}
 use Rattle.window.specs.declared.Reply.{Reply}
 use Rattle.window.specs.Rules.Window.{virtualIn, window, visible}
 use Rattle.window.specs.Wording.Painter.{Canvas}
-use Rattle.window.specs.Rules.Core.{Lent, T, tabled, start, openedText, badByte, unlessBad, opened}
+use Rattle.window.specs.Rules.Core.{Lent, Called, T, tabled, start, openedText, badByte, badLine, unlessAt, opened}
 use Rattle.window.specs.Wording.Calls.{Texts, virtualHeld, Refreshed, lent, called, unopenedReply}
 use Rattle.window.proofs.Laws.Views.{tabled-facts, start-seen}
 
@@ -116,7 +116,7 @@ module _ (n H W : ℕ) (b : Lent) (fit : tabled H W b ≡ true) (fits : n ≤ T 
           lent = record { stores = opens .stores i; screen = (fresh .screen ∙ ap (window (start H W)) holds) i };
         }
 
--- ---- The three tests
+-- ---- The four tests
 
 -- The first n bytes by themselves have the bad byte that they have in the store.
 bad-byte-within : (n : ℕ) (text : List ℕ) → n ≤ length text
@@ -129,7 +129,7 @@ bad-byte-within n text fits =
 pub stores-fit : (H W : ℕ) (b : Lent) {ok : Bool} → ok ≡ tabled H W b → not ok ≡ false → tabled H W b ≡ true
 stores-fit H W b known passed = sym known ∙ not-false _ passed
 
--- SIZE, then LONG, then TEXT, each where the tests before it passed.
+-- SIZE, then LONG, then TEXT, then LINE, each where the tests before it passed.
 module _ (n H W : ℕ) (b : Lent) {ok : Bool} (known : ok ≡ tabled H W b) where
   pub size-refused : {r : Reply} → not ok ≡ true → r ≡ unopenedReply SIZE 0 → called r b ≡ opened n H W b
   unfolding opened
@@ -142,15 +142,28 @@ module _ (n H W : ℕ) (b : Lent) {ok : Bool} (known : ok ≡ tabled H W b) wher
 
     module _ {found : Search} (fits : n ≤ T (b .stores))
         (search : found ≡ nearest (λ i. not (allowed (getD (take n (b .stores .text)) i 0))) (length (take n (b .stores .text))) 0) where
-      bytes-decide : opened n H W b ≡ unlessBad found b (openedText n H W b)
-      unfolding opened
+      -- What comes behind the search for a bad byte.
+      lines-decide : Called
+      lines-decide = unlessAt LINE (badLine n (b .stores .text)) b (openedText n H W b)
+
+      bytes-decide : opened n H W b ≡ unlessAt TEXT found b lines-decide
+      unfolding opened lines-decide
       bytes-decide =
           cond-true _ _ (stores-fit H W b known passed) ∙ cond-true _ _ (le-leb n _ fits)
-          ∙ ap (λ s. unlessBad s b (openedText n H W b)) (sym (search ∙ bad-byte-within n (b .stores .text) fits))
+          ∙ ap (λ s. unlessAt TEXT s b lines-decide) (sym (search ∙ bad-byte-within n (b .stores .text) fits))
 
       pub text-refused : {r : Reply} (i : ℕ) → found ≡ Reached i → r ≡ unopenedReply TEXT i → called r b ≡ opened n H W b
-      text-refused i there e =
-          ap (λ q. called q b) e ∙ sym (bytes-decide ∙ ap (λ s. unlessBad s b (openedText n H W b)) there)
+      text-refused i there e = ap (λ q. called q b) e ∙ sym (bytes-decide ∙ ap (λ s. unlessAt TEXT s b lines-decide) there)
 
-      pub text-accepted : found ≡ Nowhere → openedText n H W b ≡ opened n H W b
-      text-accepted none = sym (bytes-decide ∙ ap (λ s. unlessBad s b (openedText n H W b)) none)
+      module _ (none : found ≡ Nowhere) {line : Search} (lines : line ≡ badLine n (b .stores .text)) where
+        line-decides : opened n H W b ≡ unlessAt LINE line b (openedText n H W b)
+        unfolding lines-decide
+        line-decides =
+            bytes-decide ∙ ap (λ s. unlessAt TEXT s b lines-decide) none ∙ ap (λ s. unlessAt LINE s b (openedText n H W b)) (sym lines)
+
+        pub line-refused : {r : Reply} (i : ℕ) → line ≡ Reached i → r ≡ unopenedReply LINE i → called r b ≡ opened n H W b
+        line-refused i there e =
+            ap (λ q. called q b) e ∙ sym (line-decides ∙ ap (λ s. unlessAt LINE s b (openedText n H W b)) there)
+
+        pub text-accepted : line ≡ Nowhere → openedText n H W b ≡ opened n H W b
+        text-accepted fits = sym (line-decides ∙ ap (λ s. unlessAt LINE s b (openedText n H W b)) fits)

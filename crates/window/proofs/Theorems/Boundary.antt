@@ -11,11 +11,14 @@ use borrow.Author.Tests.{leb-true, le-leb}
 use Rattle.gap.specs.Rules.Checks.{Check, check, firstFailed, Passing}
 use Rattle.gap.specs.Rules.Sequence.{every}
 use Rattle.gap.specs.Rules.Layout.{allowed}
+use Rattle.gap.specs.Rules.LineLimits.{linesFit}
 use Rattle.gap.proofs.Laws.Tests.{decided, and-left, and-right, and-both, cond-true, cond-false}
 use Rattle.gap.proofs.Laws.Nearest.{Least}
 use Rattle.gap.proofs.Laws.Order.{exactly, accepted-exactly}
-use Rattle.editor.specs.Rules.Refusals.{SIZE, LONG, TEXT, SESSION, KEY, FULL}
+use Rattle.gap.proofs.Theorems.LineLimits.{FirstLonger}
+use Rattle.editor.specs.Rules.Refusals.{SIZE, LONG, TEXT, SESSION, KEY, FULL, LINE}
 use Rattle.editor.specs.Rules.Plain.{Plain, opening, quiet, Did, reporting, Outcome, refused, done}
+use Rattle.editor.specs.Rules.LongLines.{longestLine, readable}
 use Rattle.editor.specs.Rules.Keys.{soundKey, pressed, fits, key, after}
 use Rattle.editor.specs.Rules.Bytes.{quarter}
 use Rattle.window.specs.Words.{Mode}
@@ -30,8 +33,8 @@ use Rattle.window.specs.Rules.Host.{hostOpened, hostUnopened, hostKeyed,
 use Rattle.window.specs.Wording.Promise.{Follows, HostFollows, HostTold}
 use Rattle.window.proofs.Laws.Window.{length-window}
 use Rattle.window.proofs.Laws.Views.{view-held, view-tabled, view-session}
-use Rattle.window.proofs.Theorems.Refusals.{opening-code, opening-size, opening-long, opening-text, opening-accepted, opening-leaves}
-use Rattle.window.proofs.Theorems.Refusals.{opening-done, opening-place, opening-no-place, key-code, key-leaves}
+use Rattle.window.proofs.Theorems.Refusals.{opening-code, opening-size, opening-long, opening-text, opening-line, opening-accepted}
+use Rattle.window.proofs.Theorems.Refusals.{opening-leaves, opening-done, opening-place, opening-line-place, opening-no-place, key-code, key-leaves}
 use Rattle.window.proofs.Theorems.Sessions.{opening-view, session-keyed, key-follows}
 use Rattle.window.proofs.Theorems.NamedRows.{unchanged-shortest}
 use Rattle.window.proofs.Theorems.DemandThree.{key-names}
@@ -45,7 +48,7 @@ module _ (n H W : ℕ) (b : Lent) where
   unfolding hostOpened
   host-opening-code = opening-code n H W b
 
-  -- SIZE, LONG, TEXT and 0, each exactly when its check is the first to fail.
+  -- SIZE, LONG, TEXT, LINE and 0, each exactly when its check is the first to fail.
   pub host-opening-size : (hostOpened n H W b .said .code ≡ SIZE) ↔ (Passing [] × (tabled H W b ≡ false))
   unfolding hostOpened
   host-opening-size = opening-size n H W b
@@ -60,6 +63,13 @@ module _ (n H W : ℕ) (b : Lent) where
   unfolding hostOpened
   host-opening-text = opening-text n H W b
 
+  pub host-opening-line : (hostOpened n H W b .said .code ≡ LINE)
+      ↔ (Passing
+      (check SIZE (tabled H W b) ∷ check LONG (leb n (T (b .stores))) ∷ check TEXT (every allowed (take n (b .stores .text))) ∷ [])
+      × (linesFit longestLine (take n (b .stores .text)) ≡ false))
+  unfolding hostOpened
+  host-opening-line = opening-line n H W b
+
   pub host-opening-accepted : (hostOpened n H W b .said .code ≡ 0) ↔ Passing (openingChecks n H W b)
   unfolding hostOpened
   host-opening-accepted = opening-accepted n H W b
@@ -70,13 +80,19 @@ module _ (n H W : ℕ) (b : Lent) where
   unfolding hostOpened
   host-opening-leaves bad = ap givenOf (opening-leaves n H W b bad)
 
-  -- The place is the first bad index for TEXT, and 0 otherwise.
+  -- The place is the first bad index for TEXT, where the first longer line begins for LINE, and 0 otherwise.
   pub host-opening-place : hostOpened n H W b .said .code ≡ TEXT
       → Least (λ i. not (allowed (getD (b .stores .text) i 0))) n 0 (hostOpened n H W b .said .place)
   unfolding hostOpened
   host-opening-place = opening-place n H W b
 
-  pub host-opening-no-place : (hostOpened n H W b .said .code ≡ TEXT → ⊥) → hostOpened n H W b .said .place ≡ 0
+  pub host-opening-line-place : hostOpened n H W b .said .code ≡ LINE
+      → FirstLonger longestLine (take n (b .stores .text)) (hostOpened n H W b .said .place)
+  unfolding hostOpened
+  host-opening-line-place = opening-line-place n H W b
+
+  pub host-opening-no-place : (hostOpened n H W b .said .code ≡ TEXT → ⊥) → (hostOpened n H W b .said .code ≡ LINE → ⊥)
+      → hostOpened n H W b .said .place ≡ 0
   unfolding hostOpened
   host-opening-no-place = opening-no-place n H W b
 
@@ -113,7 +129,7 @@ module _ (n : Record) (x : KeyNumbers) (b : Lent) where
       (λ high. ap (λ g. g .said .code) (off-mode high) ∙ rw high (no-mode-code (tabled (n .rows) (n .columns) b) _))
       (decided (leb (n .mode) 1))
 
-  -- SIZE, SESSION, KEY, FULL and 0, each exactly when its check is the first to fail.
+  -- SIZE, SESSION, KEY, FULL, LINE and 0, each exactly when its check is the first to fail.
   pub host-key-size : (hostPressed n x b .said .code ≡ SIZE) ↔ (Passing [] × (tabled (n .rows) (n .columns) b ≡ false))
   host-key-size = rw host-key-code (exactly [] SIZE _ _ refl refl)
 
@@ -134,6 +150,16 @@ module _ (n : Record) (x : KeyNumbers) (b : Lent) where
       ∷ [])
       × (fits (T (b .stores)) quarter (pressed (keyOf x) (hostHeld n (b .stores)) .state) ≡ false))
   host-key-full = rw host-key-code (exactly (check SIZE _ ∷ check SESSION _ ∷ check KEY _ ∷ []) FULL _ _ refl refl)
+
+  pub host-key-line : (hostPressed n x b .said .code ≡ LINE)
+      ↔ (Passing
+      (check SIZE (tabled (n .rows) (n .columns) b)
+      ∷ check SESSION (isHostSession n (b .stores))
+      ∷ check KEY (names x && soundKey (hostHeld n (b .stores) .mode) (keyOf x))
+      ∷ check FULL (fits (T (b .stores)) quarter (pressed (keyOf x) (hostHeld n (b .stores)) .state))
+      ∷ [])
+      × (readable longestLine (pressed (keyOf x) (hostHeld n (b .stores)) .state) ≡ false))
+  host-key-line = rw host-key-code (exactly (check SIZE _ ∷ check SESSION _ ∷ check KEY _ ∷ check FULL _ ∷ []) LINE _ _ refl refl)
 
   pub host-key-accepted : (hostPressed n x b .said .code ≡ 0) ↔ Passing (hostKeyChecks n x b)
   host-key-accepted = rw host-key-code (accepted-exactly (hostKeyChecks n x b) refl)

@@ -1,17 +1,21 @@
 -- MARK, CUT and PASTE from what the calls promise (02, M-101): in QUOTED all three get KEY; in MAIN, MARK and CUT are always accepted; CUT, then
 -- PASTE at once, restores text and cursor.
 use mathlib.Core.Path.{_≡_, refl, sym, ap, ap₂, subst⁻¹, _∙_}
+use mathlib.Core.Logic.{_↔_}
 use Prim.Native.Nat.{ℕ}
 use native.Mathlib.Omega.{arith}
 use Rattle.gap.proofs.Laws.Tests.{clash}
-use Rattle.editor.specs.Rules.Refusals.{KEY}
+use Rattle.editor.specs.Rules.Refusals.{KEY, LINE}
 use Rattle.editor.specs.Rules.Plain.{Plain, quiet, reporting, done}
+use Rattle.editor.specs.Rules.LongLines.{longestLine, readable}
 use Rattle.editor.specs.Rules.Keys.{soundKey, markedHere, acted, pressed, fits, key, after, Unsound, markInQuoted, cutInQuoted, pasteInQuoted}
+use Rattle.editor.specs.Rules.Keys.{Exceeds, LongLine}
 use Rattle.editor.specs.Rules.Bytes.{quarter}
 use Rattle.editor.proofs.Laws.States.{sound-fits}
-use Rattle.editor.proofs.Laws.MarkedStates.{marked-sound, cut-sound}
-use Rattle.editor.proofs.Laws.Keeps.{texts-kept}
-use Rattle.editor.proofs.Laws.Room.{keeps-within}
+use Rattle.editor.proofs.Laws.MarkedStates.{marked-sound, cut-fits}
+use Rattle.editor.proofs.Laws.Keeps.{texts-kept, fits-acted}
+use Rattle.editor.proofs.Laws.Room.{fits-within, keeps-within}
+use Rattle.editor.proofs.Laws.LongLines.{readable-within}
 use Rattle.editor.proofs.Laws.Outcomes.{accepted}
 use Rattle.editor.proofs.Theorems.Refusals.{key-unsound}
 use Rattle.editor.proofs.Theorems.Cuts.{leaving, cut-deletes, cut-then-paste}
@@ -55,15 +59,35 @@ module _ (s : Session) (b : Lent) (on : OnSession s b) (o : Called) where
         let p = held s (b .stores) in
         let texts = session-view s b (on .fit) (on .ok) .good .sound .texts in
         let marked = texts-kept (T (b .stores)) quarter Mark p (marked-sound (T (b .stores)) quarter _ p texts) in
-        key-does s Mark b o promise .accepted .1 (on, main-sound Mark refl main, keeps-within (T (b .stores)) quarter (pressed Mark p .state) marked)
+        key-does s Mark b o promise .accepted .1 (
+          on,
+          main-sound Mark refl main,
+          keeps-within (T (b .stores)) quarter (pressed Mark p .state) marked,
+          readable-within (pressed Mark p .state) .0 (marked .lines),
+        )
 
-    pub cut-accepted : KeyPromise s Cut b o → o .answer .code ≡ 0
-    unfolding soundKey acted
-    cut-accepted promise =
+    -- CUT is accepted unless the line that it joins is too long. (02, M-106.)
+    cut-within : ¬ Exceeds (T (b .stores)) quarter (pressed Cut (held s (b .stores)) .state)
+    unfolding acted
+    cut-within =
         let p = held s (b .stores) in
         let texts = session-view s b (on .fit) (on .ok) .good .sound .texts in
-        let cut = texts-kept (T (b .stores)) quarter Cut p (cut-sound (T (b .stores)) quarter (p .mark) p texts) in
-        key-does s Cut b o promise .accepted .1 (on, main-sound Cut refl main, keeps-within (T (b .stores)) quarter (pressed Cut p .state) cut)
+        fits-within (T (b .stores)) quarter (pressed Cut p .state) .0
+        (fits-acted (T (b .stores)) quarter Cut p ∙ cut-fits (T (b .stores)) quarter (p .mark) p texts)
+
+    pub cut-accepted : KeyPromise s Cut b o → (o .answer .code ≡ 0) ↔ (¬ LongLine (pressed Cut (held s (b .stores)) .state))
+    unfolding soundKey
+    cut-accepted promise = (
+      λ e. key-does s Cut b o promise .accepted .0 e .3,
+      λ short. key-does s Cut b o promise .accepted .1 (on, main-sound Cut refl main, cut-within, short),
+    )
+
+    pub cut-long : KeyPromise s Cut b o → (o .answer .code ≡ LINE) ↔ LongLine (pressed Cut (held s (b .stores)) .state)
+    unfolding soundKey
+    cut-long promise = (
+      λ e. key-does s Cut b o promise .line .0 e .3,
+      λ long. key-does s Cut b o promise .line .1 (on, main-sound Cut refl main, cut-within, long),
+    )
 
 -- ---- CUT with a mark, then PASTE at once
 
@@ -83,16 +107,17 @@ module _ (s : Session) (b : Lent) (o : Called) (promise : KeyPromise s Cut b o) 
   unfolding soundKey fits
   back =
       let size = T (b .stores) in
-      let (ok, room, same) = accepted size quarter Cut start (taken .did) .0 (taken .plain) in
+      let (ok, room, lines, same) = accepted size quarter Cut start (taken .did) .0 (taken .plain) in
       let q = pressed Cut start .state in
       let cut = cut-deletes start m marked in
       let mode : q .mode ≡ start .mode = ap (λ d. d .state .mode) cut in
       let held-so = ap (λ d. d .state .held) cut in
       let restores = cut-then-paste start m marked ∙ ap (λ h. reporting quiet (leaving (start .main .text) h start)) (sym held-so) in
       let fit = ap (λ d. fits size quarter (d .state)) restores ∙ sound-fits size quarter start (sound s Cut b o promise accepts .texts) in
+      let short = ap (λ d. readable longestLine (d .state)) restores ∙ sound s Cut b o promise accepts .texts .lines in
       rw (← same)
       (accepted size quarter Paste q (reporting quiet (leaving (start .main .text) (q .held) start)) .1
-      (ap (λ mode. soundKey mode Paste) mode ∙ ok, fit, restores))
+      (ap (λ mode. soundKey mode Paste) mode ∙ ok, fit, short, restores))
 
   -- PASTE is accepted; text and cursor are as they were, and so is all else but for what is held and the mark.
   pub paste-restored : (next .answer .code ≡ 0) × (held (next .session) (next .lent .stores) ≡ leaving (start .main .text) (between .held) start)

@@ -5,15 +5,15 @@ use Rattle.editor.specs.declared.Key.{Key}
 use Rattle.editor.specs.Rules.Plain.{Plain, done}
 use Rattle.editor.specs.Rules.Keys.{pressed, key, after}
 use Rattle.editor.specs.Rules.Bytes.{quarter}
-use Rattle.editor.proofs.Laws.Outcomes.{full-refused, accepted}
-use Rattle.editor.proofs.Theorems.Refusals.{key-unsound, refused-full, done-otherwise}
+use Rattle.editor.proofs.Laws.Outcomes.{full-refused, line-refused, accepted}
+use Rattle.editor.proofs.Theorems.Refusals.{key-unsound, refused-full, refused-line, done-otherwise}
 use Rattle.window.specs.Words.{Session}
 use Rattle.window.specs.Rules.Window.{virtual, rowOf, columnOf, window, visible, policy}
 use Rattle.window.specs.Rules.Core.{Lent, T, held, shown, finished, keyed}
 use Rattle.window.specs.Wording.Demands.{OnSession, Carried, KeyDoes}
 use Rattle.window.proofs.Laws.Window.{policy-visible}
 use Rattle.window.proofs.Laws.Views.{tabled-facts}
-use Rattle.window.proofs.Theorems.Refusals.{key-size, key-session, key-key, key-full, key-accepted, key-leaves}
+use Rattle.window.proofs.Theorems.Refusals.{key-size, key-session, key-key, key-full, key-line, key-accepted, key-leaves}
 use Rattle.window.proofs.Theorems.Sessions.{session-keyed, key-follows}
 
 module _ (s : Session) (k : Key) (b : Lent) where
@@ -31,7 +31,7 @@ module _ (s : Session) (k : Key) (b : Lent) where
     pub key-plain : key (T (b .stores)) quarter k state ≡ done (pressed k state)
     key-plain =
         let passed = key-accepted s k b .0 accepts in
-        accepted (T (b .stores)) quarter k state (pressed k state) .1 (passed .1 .1 .0, passed .1 .1 .1 .0, refl)
+        accepted (T (b .stores)) quarter k state (pressed k state) .1 (passed .1 .1 .0, passed .1 .1 .1 .0, passed .1 .1 .1 .1 .0, refl)
 
     pub key-outcome : keyed s k b ≡ finished s b (done (pressed k state))
     key-outcome = session-keyed s k b (accepted-on .fit) (accepted-on .ok) ∙ ap (finished s b) key-plain
@@ -83,12 +83,25 @@ module _ (s : Session) (k : Key) (b : Lent) where
               let (passed, long) = full-refused (T (b .stores)) quarter k state .0 refused-so in
               key-full s k b .1 ((on .fit, (on .ok, (passed, tt))), long),
         );
+        line = (
+          λ e.
+              let (passed, long) = key-line s k b .0 e in
+              let refused-so = line-refused (T (b .stores)) quarter k state .1 (passed .1 .1 .0, passed .1 .1 .1 .0, long) in
+              let (sound, within, longer) = refused-line (T (b .stores)) quarter k state .0 refused-so in
+              (record { fit = passed .0; ok = passed .1 .0 }, sound, within, longer),
+          λ (on, sound, within, longer).
+              let refused-so = refused-line (T (b .stores)) quarter k state .1 (sound, within, longer) in
+              let (passed, room, long) = line-refused (T (b .stores)) quarter k state .0 refused-so in
+              key-line s k b .1 ((on .fit, (on .ok, (passed, (room, tt)))), long),
+        );
         accepted = (
-          λ e. let (sound, short) = done-otherwise (T (b .stores)) quarter k state .0 (key-plain e) in (accepted-on e, sound, short),
-          λ (on, sound, short).
-              let (passed, room, same) =
-              accepted (T (b .stores)) quarter k state (pressed k state) .0 (done-otherwise (T (b .stores)) quarter k state .1 (sound, short)) in
-              key-accepted s k b .1 (on .fit, (on .ok, (passed, (room, tt)))),
+          λ e.
+              let (sound, within, short) = done-otherwise (T (b .stores)) quarter k state .0 (key-plain e) in
+              (accepted-on e, sound, within, short),
+          λ (on, sound, within, short).
+              let done-so = done-otherwise (T (b .stores)) quarter k state .1 (sound, within, short) in
+              let (passed, room, lines, same) = accepted (T (b .stores)) quarter k state (pressed k state) .0 done-so in
+              key-accepted s k b .1 (on .fit, (on .ok, (passed, (room, (lines, tt))))),
         );
         refused = key-leaves s k b;
         carried = key-carried;

@@ -12,6 +12,9 @@ use Rattle.gap.specs.Rules.Layout.{gapped, paired, ungap, unpair, soundGap, sou
 use Rattle.gap.specs.Rules.Decimal.{digitsIn, decimal}
 use Rattle.gap.specs.Tables.Sentence.{allOf, broken, itself}
 use Rattle.gap.specs.Tables.Written.{markedAfter, storedAs}
+use Rattle.gap.specs.Rules.LineLimits.{noneLonger, linesFit, longLine}
+use Rattle.gap.specs.Rules.Fields.{lineOf, lineAt}
+use Rattle.editor.specs.Rules.LongLines.{longestLine}
 use Rattle.editor.specs.Rules.Passages.{withLines, passageTo}
 use Rattle.editor.specs.Rules.Places.{lineBeginning, lineEnding, word, documentEnd, isAt}
 use Rattle.editor.specs.Rules.Marks.{markThrough}
@@ -39,53 +42,55 @@ pub windows-pinned : broken isRight windowPins ≡ []
 unfolding every sameBytes begins part zeros counted move delete times passed splice nearest distance withLines passageTo newlines sinceAfter
     lines gapped paired ungap unpair soundGap soundPair lineBeginning lineEnding word documentEnd isAt soundKey inserted removed carried
     function recalled onSide quoted withPattern searched found withReplacement exchanged substituted replaced markedHere cutTo pasted acted
-    changeOf markThrough pressed fits bounded key quarter sized plainOf lengthsOf storesOf editorOk virtualIn rowCells joined window visible
-    policy firstRow lastRow tabled isSession openedText opened shown finished keyed bytes markedAfter pressing moving outcome holds allHold
-    allOf broken
+    changeOf markThrough pressed fits bounded key quarter sized plainOf lengthsOf storesOf editorOk linesFit noneLonger longestLine
+    virtualIn rowCells joined window visible policy firstRow lastRow tabled isSession openedText opened longLine lineAt lineOf shown
+    finished keyed bytes markedAfter pressing moving outcome holds allHold allOf broken
 windows-pinned = refl
 
 pub calls-pinned : broken itself (sizePins ++ (openingPins ++ callPins)) ≡ []
 unfolding every sameBytes begins part zeros counted move delete times passed splice nearest distance withLines passageTo newlines sinceAfter
     lines gapped paired ungap unpair soundGap soundPair lineBeginning lineEnding word documentEnd isAt soundKey inserted removed carried
     function recalled onSide quoted withPattern searched found withReplacement exchanged substituted replaced markedHere cutTo pasted acted
-    changeOf markThrough pressed fits bounded key quarter sized plainOf lengthsOf storesOf editorOk virtualIn rowCells joined window visible
-    policy firstRow lastRow tabled isSession openedText opened shown finished keyed bytes storedAs allOf broken
+    changeOf markThrough pressed fits bounded key quarter sized plainOf lengthsOf storesOf editorOk linesFit noneLonger longestLine
+    virtualIn rowCells joined window visible policy firstRow lastRow tabled isSession openedText opened longLine lineAt lineOf shown
+    finished keyed bytes storedAs allOf broken
 calls-pinned = refl
 
 pub terminals-pinned : broken itself terminalPins ≡ []
 unfolding every sameBytes begins part patch zeros counted move delete times passed splice nearest distance withLines passageTo newlines
     sinceAfter lines gapped paired ungap unpair soundGap soundPair lineBeginning lineEnding word documentEnd isAt soundKey inserted removed
     carried function recalled onSide quoted withPattern searched found withReplacement exchanged substituted replaced markedHere cutTo
-    pasted acted changeOf markThrough pressed fits bounded key quarter sized plainOf lengthsOf storesOf editorOk virtualIn rowCells joined
-    window visible policy firstRow lastRow tabled isSession openedText opened shown finished keyed bytes storedAs digitsIn decimal sentSpot
-    sentRow sentRows sentScreen sendable sending repaint struck typed viewed step feed openedLine struckLine typedLine allOf broken
+    pasted acted changeOf markThrough pressed fits bounded key quarter sized plainOf lengthsOf storesOf editorOk linesFit noneLonger
+    longestLine virtualIn rowCells joined window visible policy firstRow lastRow tabled isSession openedText opened longLine lineAt lineOf
+    shown finished keyed bytes storedAs digitsIn decimal sentSpot sentRow sentRows sentScreen sendable sending repaint struck typed viewed
+    step feed openedLine struckLine typedLine allOf broken
 terminals-pinned = refl
 
 pub keys-on-bytes : broken onBytes (placePins ++ (editPins ++ (quotationPins ++ (searchPins ++ replacePins)))) ≡ []
 unfolding every sameBytes begins part zeros counted move delete times passed splice nearest distance withLines passageTo newlines sinceAfter
     lines gapped paired ungap unpair soundGap soundPair lineBeginning lineEnding word documentEnd isAt soundKey inserted removed carried
     function recalled onSide quoted withPattern searched found withReplacement exchanged substituted replaced markedHere cutTo pasted acted
-    changeOf markThrough pressed fits bounded key quarter sized plainOf lengthsOf storesOf editorOk virtualIn rowCells joined window visible
-    policy firstRow lastRow tabled isSession openedText opened shown finished keyed bytes markedAfter pressing unmarked markAfter states
-    statesAll onBytes allOf broken
+    changeOf markThrough pressed fits bounded key quarter sized plainOf lengthsOf storesOf editorOk linesFit noneLonger longestLine
+    virtualIn rowCells joined window visible policy firstRow lastRow tabled isSession openedText opened longLine lineAt lineOf shown
+    finished keyed bytes markedAfter pressing unmarked markAfter states statesAll onBytes allOf broken
 keys-on-bytes = refl
 
 pub cuts-on-bytes : broken onBytes cutPins ≡ []
 unfolding every sameBytes begins part zeros counted move delete times passed splice nearest distance withLines passageTo newlines sinceAfter
     lines gapped paired ungap unpair soundGap soundPair lineBeginning lineEnding word documentEnd isAt soundKey inserted removed carried
     function recalled onSide quoted withPattern searched found withReplacement exchanged substituted replaced markedHere cutTo pasted acted
-    changeOf markThrough pressed fits bounded key quarter sized plainOf lengthsOf storesOf editorOk virtualIn rowCells joined window visible
-    policy firstRow lastRow tabled isSession openedText opened shown finished keyed bytes markedAfter pressing unmarked markAfter states
-    statesAll onBytes allOf broken
+    changeOf markThrough pressed fits bounded key quarter sized plainOf lengthsOf storesOf editorOk linesFit noneLonger longestLine
+    virtualIn rowCells joined window visible policy firstRow lastRow tabled isSession openedText opened longLine lineAt lineOf shown
+    finished keyed bytes markedAfter pressing unmarked markAfter states statesAll onBytes allOf broken
 cuts-on-bytes = refl
 
 pub pastes-on-bytes : broken onBytes pastePins ≡ []
 unfolding every sameBytes begins part zeros counted move delete times passed splice nearest distance withLines passageTo newlines sinceAfter
     lines gapped paired ungap unpair soundGap soundPair lineBeginning lineEnding word documentEnd isAt soundKey inserted removed carried
     function recalled onSide quoted withPattern searched found withReplacement exchanged substituted replaced markedHere cutTo pasted acted
-    changeOf markThrough pressed fits bounded key quarter sized plainOf lengthsOf storesOf editorOk virtualIn rowCells joined window visible
-    policy firstRow lastRow tabled isSession openedText opened shown finished keyed bytes markedAfter pressing unmarked markAfter states
-    statesAll onBytes allOf broken
+    changeOf markThrough pressed fits bounded key quarter sized plainOf lengthsOf storesOf editorOk linesFit noneLonger longestLine
+    virtualIn rowCells joined window visible policy firstRow lastRow tabled isSession openedText opened longLine lineAt lineOf shown
+    finished keyed bytes markedAfter pressing unmarked markAfter states statesAll onBytes allOf broken
 pastes-on-bytes = refl
 
 -- 01, what a refusal leaves: all five stores as they were; steps, bell, named rows and cursor 0; after opening a record of zeros in mode

@@ -7,12 +7,12 @@ use mathlib.Core.List.{List}
 use Prim.Native.Nat.{ℕ, _*_}
 use lib.ListN.{length, take}
 use Rattle.editor.specs.declared.Key.{Key}
-use Rattle.editor.specs.Rules.Refusals.{ROOM}
+use Rattle.editor.specs.Rules.Refusals.{ROOM, LINE}
 use Rattle.editor.specs.Rules.Places.{isAt}
 use Rattle.editor.specs.Rules.Plain.{Plain, opening}
 use Rattle.editor.specs.Rules.Keys.{matches, key, keys, after, Unsound}
 use Rattle.editor.specs.Rules.Bytes.{quarter}
-use Rattle.window.specs.Words.{Direction, Action, Place, Function, Find, Session}
+use Rattle.window.specs.Words.{Direction, Action, Move, Place, Function, Find, Session}
 use Rattle.window.specs.Rules.Core.{Lent, Called, T, tabled, held, isSession, unopened, opened, turnedDown, keyed}
 use Rattle.window.specs.Rules.Sending.{SendOutcome, unsent}
 use Rattle.window.specs.Wording.Promise.{OpenPromise, KeyPromise, SendPromise, SendAfterPromise}
@@ -27,7 +27,7 @@ use Rattle.window.proofs.Theorems.Refusals.{opening-leaves, key-leaves}
 use Rattle.window.proofs.Theorems.Sessions.{opening-view, key-follows}
 use Rattle.window.proofs.Theorems.DemandThree.{key-good, key-showing, opening-showing, demand-three, key-names, view-names, looked-size}
 use Rattle.window.proofs.Theorems.KeyDoes.{keyed-does}
-use Rattle.window.proofs.Theorems.Steps.{function-steps, find-steps}
+use Rattle.window.proofs.Theorems.Steps.{move-fits, function-steps, find-steps}
 use Rattle.window.proofs.Theorems.Sending.{sending-leaves}
 use Rattle.window.proofs.Theorems.AfterCalls.{key-shown}
 use Rattle.window.proofs.Theorems.Line.{demand-three-sent, demand-three-line}
@@ -53,15 +53,20 @@ pub key-holds : (s : Session) (k : Key) (b : Lent) (o : Called) → KeyPromise s
     → held (o .session) (o .lent .stores) ≡ after (held s (b .stores)) (key (T (b .stores)) quarter k (held s (b .stores)))
 key-holds s k b o promise fit ok = ap (λ x. held (x .session) (x .lent .stores)) promise ∙ key-follows s k b fit ok .holds
 
--- Steps and bell, on any session: of moves and deletions the distance to the place, of FIND and UPFIND to the nearest match.
+-- Steps and bell, on any session: of moves and deletions that do not get LINE the distance to the place, of FIND and UPFIND to the nearest match.
 module _ (s : Session) (b : Lent) (on : OnSession s b) (o : Called) where
   abbrev state : Plain
   state = held s (b .stores)
 
   pub steps-moved : (action : Action) (way : Direction) (place : Place) → KeyPromise s (Function action way place) b o
-      → ¬ Unsound (state .mode) (Function action way place) → StepsTo way (isAt place way) (textIn (state .mode) state) o
-  steps-moved action way place promise good =
-      subst⁻¹ (StepsTo way (isAt place way) (textIn (state .mode) state)) promise (function-steps s b on action way place good)
+      → ¬ Unsound (state .mode) (Function action way place) → o .answer .code ≢ LINE → StepsTo way (isAt place way) (textIn (state .mode) state) o
+  steps-moved action way place promise good fits =
+      subst⁻¹ (StepsTo way (isAt place way) (textIn (state .mode) state)) promise
+      (function-steps s b on action way place good (λ e. fits (ap (λ x. x .answer .code) promise ∙ e)))
+
+  -- A move never gets LINE, so that of moves this says all. (02, M-106.)
+  pub move-taken : (way : Direction) (place : Place) → KeyPromise s (Function Move way place) b o → o .answer .code ≢ LINE
+  move-taken way place promise e = move-fits s b on way place (sym (ap (λ x. x .answer .code) promise) ∙ e)
 
   pub steps-found : (way : Direction) → KeyPromise s (Find way) b o → StepsTo way (matches (patternIn (state .mode) state)) (state .main .text) o
   steps-found way promise = subst⁻¹ (StepsTo way (matches (patternIn (state .mode) state)) (state .main .text)) promise (find-steps s b on way)

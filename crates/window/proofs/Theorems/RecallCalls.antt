@@ -4,9 +4,9 @@ use mathlib.Core.Logic.{_↔_}
 use mathlib.Core.Bool.{true}
 use Prim.Native.Nat.{ℕ, _≤_}
 use Rattle.gap.proofs.Laws.Layout.{length-gapped}
-use Rattle.editor.specs.Rules.Refusals.{FULL}
+use Rattle.editor.specs.Rules.Refusals.{FULL, LINE}
 use Rattle.editor.specs.Rules.Plain.{Plain, quiet, reporting}
-use Rattle.editor.specs.Rules.Keys.{sideOf, withMark, pressed, key, after, Exceeds}
+use Rattle.editor.specs.Rules.Keys.{sideOf, withMark, pressed, key, after, Exceeds, LongLine}
 use Rattle.editor.specs.Rules.Bytes.{quarter, lengthsOf, storesOf, SoundPlain}
 use Rattle.editor.specs.Wording.Recalling.{withRecall, recallPutIn}
 use Rattle.editor.proofs.Laws.Outcomes.{accepted}
@@ -109,21 +109,42 @@ module _ (s : Session) (b : Lent) (way : Direction) (place : Place) (o : Called)
     same-exceeding : Exceeds (T (o .lent .stores)) quarter (pressed Recall between .state) ≡ Exceeds size quarter (recallPutIn start)
     same-exceeding = ap₂ (λ t d. Exceeds t quarter (d .state)) same-length same-finished
 
-    -- Refused exactly when the finished text would not fit, else accepted.
+    same-long : LongLine (pressed Recall between .state) ≡ LongLine (recallPutIn start)
+    same-long = ap (λ d. LongLine (d .state)) same-finished
+
+    -- Refused exactly when the finished text would not fit or would have a line that is too long, else accepted.
     pub older-full : (next .answer .code ≡ FULL) ↔ Exceeds size quarter (recallPutIn start)
     older-full = (
       λ e. transport same-exceeding (does .full .0 e .2),
       λ over. does .full .1 (deleted .follows, recall-sound (between .mode), transport (sym same-exceeding) over),
     )
 
-    pub older-accepted : (next .answer .code ≡ 0) ↔ (¬ Exceeds size quarter (recallPutIn start))
+    pub older-long : (next .answer .code ≡ LINE) ↔ ((¬ Exceeds size quarter (recallPutIn start)) × LongLine (recallPutIn start))
+    older-long = (
+      λ e.
+          let (on, sound, within, long) = does .line .0 e in
+          (λ over. within (transport (sym same-exceeding) over), transport same-long long),
+      λ (within, long).
+          does .line .1
+          (deleted .follows, recall-sound (between .mode), λ over. within (transport same-exceeding over), transport (sym same-long) long),
+    )
+
+    pub older-accepted : (next .answer .code ≡ 0) ↔ ((¬ Exceeds size quarter (recallPutIn start)) × (¬ LongLine (recallPutIn start)))
     older-accepted = (
-      λ e over. does .accepted .0 e .2 (transport (sym same-exceeding) over),
-      λ short. does .accepted .1 (deleted .follows, recall-sound (between .mode), λ over. short (transport same-exceeding over)),
+      λ e.
+          let (on, sound, within, short) = does .accepted .0 e in
+          (λ over. within (transport (sym same-exceeding) over), λ long. short (transport (sym same-long) long)),
+      λ (within, short).
+          does .accepted .1 (
+            deleted .follows,
+            recall-sound (between .mode),
+            λ over. within (transport same-exceeding over),
+            λ long. short (transport same-long long),
+          ),
     )
 
     pub older-put-in : next .answer .code ≡ 0 → held (next .session) (next .lent .stores) ≡ recallPutIn start
     older-put-in e =
         let done-so = does .carried e in
-        let (ok, room, same) = accepted (T (o .lent .stores)) quarter Recall between (done-so .did) .0 (done-so .plain) in
+        let (ok, room, lines, same) = accepted (T (o .lent .stores)) quarter Recall between (done-so .did) .0 (done-so .plain) in
         done-so .holds ∙ (ap (λ d. d .state) (sym same ∙ same-finished))

@@ -31,7 +31,7 @@ module _ (n H W : ℕ) (b : Lent) (accepts : opened n H W b .answer .code ≡ 0)
       record {
         low = facts .low;
         high = facts .high;
-        sound = opening-sound (T (b .stores)) quarter n (b .stores .text) short (passed .1 .1 .0);
+        sound = opening-sound (T (b .stores)) quarter n (b .stores .text) short (passed .1 .1 .0) (passed .1 .1 .1 .0);
         tabled = facts .frame;
         seen = start-seen H W (take n (b .stores .text)) (facts .rows);
       }

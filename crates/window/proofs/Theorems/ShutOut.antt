@@ -1,5 +1,6 @@
 -- The wrong editors that document 01 names, each with the theorem that it does not keep the promise. (01, how a wrong editor is kept out.)
 use mathlib.Core.Path.{_≡_, refl, sym, ap, _∙_}
+use mathlib.Core.Logic.{_≢_}
 use mathlib.Core.Bool.{true, _&&_}
 use mathlib.Core.List.{List, [], _∷_}
 use Prim.Native.Nat.{ℕ, zero, suc, _*_}
@@ -13,6 +14,10 @@ use Rattle.gap.specs.Rules.Lines.{newlines, sinceAfter, lines}
 use Rattle.gap.specs.Rules.Layout.{gapped, paired, ungap, unpair, soundGap, soundPair}
 use Rattle.gap.proofs.Laws.Tests.{and-left, and-right}
 use Rattle.gap.proofs.Laws.Sequence.{same-equal}
+use Rattle.gap.specs.Rules.LineLimits.{noneLonger, linesFit, longLine}
+use Rattle.gap.specs.Rules.Fields.{lineOf, lineAt}
+use Rattle.editor.specs.Rules.Refusals.{LINE}
+use Rattle.editor.specs.Rules.LongLines.{longestLine}
 use Rattle.editor.specs.Rules.Passages.{withLines, passageTo}
 use Rattle.editor.specs.Rules.Places.{lineBeginning, word, isAt}
 use Rattle.editor.specs.Rules.Plain.{quiet, reporting}
@@ -49,8 +54,9 @@ computed =
 numbers : sameBytes computed (0 ∷ 1 ∷ 5 ∷ 3 ∷ 4 ∷ 0 ∷ []) ≡ true
 unfolding computed p0 p1 p2 every sameBytes part zeros counted bytes move times nearest distance passed withLines passageTo newlines
     sinceAfter lines gapped paired ungap unpair soundGap soundPair lineBeginning word isAt soundKey carried function onSide acted changeOf
-    markThrough pressed fits bounded key quarter sized plainOf lengthsOf storesOf editorOk virtualIn rowCells joined window visible policy
-    firstRow lastRow tabled isSession openedText opened shown finished keyed markedAfter pressing moving outcome
+    markThrough pressed fits bounded key quarter sized plainOf lengthsOf storesOf editorOk linesFit noneLonger longestLine virtualIn
+    rowCells joined window visible policy firstRow lastRow tabled isSession openedText opened longLine lineAt lineOf shown finished keyed
+    markedAfter pressing moving outcome
 numbers = refl
 
 fact : (i : ℕ) → getD computed i 0 ≡ getD (0 ∷ 1 ∷ 5 ∷ 3 ∷ 4 ∷ 0 ∷ []) i 0
@@ -85,7 +91,7 @@ blank : Lent
 blank = record { stores = record { text = zeros 2; recall = zeros 2; held = zeros 2; side = zeros (4 * quarter) }; screen = zeros 2 }
 
 blank-opens : opened 0 1 2 blank .answer .code ≡ 0
-unfolding blank zeros nearest quarter sized tabled openedText opened
+unfolding blank zeros nearest quarter sized tabled openedText opened longLine lineAt lineOf
 blank-opens = refl
 
 -- ---- What is not shut out: the definitions themselves keep both promises
@@ -155,8 +161,8 @@ plainly = picture (viewed (T (blank .stores)) (Insert 97 ∷ Insert 98 ∷ []) (
 shown-cells : (sameBytes (two .terminal) (97 ∷ 32 ∷ []) && sameBytes plainly (97 ∷ 98 ∷ [])) ≡ true
 unfolding blank begun one two every sameBytes part zeros counted splice nearest newlines sinceAfter lines gapped paired ungap unpair
     soundGap soundPair soundKey inserted onSide acted changeOf markThrough pressed fits bounded key quarter sized plainOf lengthsOf storesOf
-    editorOk virtualIn rowCells joined window visible policy firstRow lastRow tabled isSession openedText opened shown finished keyed
-    repaint viewed
+    editorOk linesFit noneLonger longestLine virtualIn rowCells joined window visible policy firstRow lastRow tabled isSession openedText
+    opened longLine lineAt lineOf shown finished keyed repaint viewed
 shown-cells = refl
 
 pub editing-once-out : ¬ ((n : ℕ) → PressesWell (editingOnce n))
@@ -204,10 +210,11 @@ inventing-out steps well =
 pub invented-distance : (steps : Session → Key → Lent → ℕ) → PressesWell (inventing steps) → (s : Session) (b : Lent) → OnSession s b
     → let p = held s (b .stores) in
     (action : Action) (way : Direction) (place : Place) → ¬ Unsound (p .mode) (Function action way place)
+    → keyed s (Function action way place) b .answer .code ≢ LINE
     → (n : ℕ) → LeastMoves way (isAt place way) (textIn (p .mode) p) n → steps s (Function action way place) b ≡ n
-invented-distance steps well s b on action way place good n least =
+invented-distance steps well s b on action way place good fits n least =
     let k = Function action way place in
-    ap (λ report. report .steps) (steps-moved s b on (inventing steps s k b) action way place (well s k b) good .steps n .1 least .1)
+    ap (λ report. report .steps) (steps-moved s b on (inventing steps s k b) action way place (well s k b) good fits .steps n .1 least .1)
 
 -- ---- All rows named each time (demand 3: the shortest run)
 

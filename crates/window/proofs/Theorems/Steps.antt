@@ -1,21 +1,23 @@
 -- Steps and bell on every session: of moves and deletions, in MAIN and in QUOTED, the distance to the place; of FIND and UPFIND the
 -- distance to the nearest match. With them the lines crossed. (01, plain editor: distance, search. 02, M-104.)
 use mathlib.Core.Path.{_≡_, refl, sym, ap, ap₂, subst⁻¹, _∙_}
+use mathlib.Core.Logic.{_≢_}
 use mathlib.Core.Bool.{cond}
 use Prim.Native.Nat.{ℕ, _≤_}
 use Rattle.gap.specs.Rules.Doc.{move, times}
 use Rattle.gap.proofs.Laws.Tests.{clash}
-use Rattle.editor.specs.Rules.Refusals.{FULL}
+use Rattle.editor.specs.Rules.Refusals.{FULL, LINE}
 use Rattle.editor.specs.Rules.Places.{isAt}
 use Rattle.editor.specs.Rules.Passages.{linesPassed, passageTo}
 use Rattle.editor.specs.Rules.Plain.{Plain, quiet, rang, refused}
 use Rattle.editor.specs.Rules.Keys.{soundKey, inserted, function, recalled, sideOf, withSide, onSide, quoted, withPattern, matches, searched, found}
-use Rattle.editor.specs.Rules.Keys.{replaced, markedHere, pasted, acted, pressed, key, after, Unsound}
+use Rattle.editor.specs.Rules.Keys.{replaced, markedHere, pasted, acted, pressed, key, after, Unsound, Exceeds}
 use Rattle.editor.specs.Rules.Bytes.{quarter, SoundTexts}
 use Rattle.editor.proofs.Laws.States.{side-with, same-document}
 use Rattle.editor.proofs.Laws.MarkedStates.{side-marked}
 use Rattle.editor.proofs.Theorems.LinesCrossed.{lines-within}
-use Rattle.editor.proofs.Theorems.Refusals.{key-unsound, refused-full, function-never-full, find-never-full}
+use Rattle.editor.proofs.Theorems.Refusals.{key-unsound, refused-full, refused-line, function-never-full, find-never-full}
+use Rattle.editor.proofs.Theorems.LongLines.{move-never-line, find-never-line}
 use Rattle.window.specs.Words.{Direction, Action, Move, Place, Mode, Main, Session, Key, Insert, Function, Recall, Quote, Find, Replace, Mark, Paste}
 use Rattle.window.specs.Rules.Window.{rowOf, virtual}
 use Rattle.window.specs.Rules.Core.{Lent, T, held, shown, finished, keyed}
@@ -23,7 +25,7 @@ use Rattle.window.specs.Wording.Demands.{OnSession, StepsTo, textIn, pat
 use Rattle.window.proofs.Laws.Views.{session-view}
 use Rattle.window.proofs.Laws.Reports.{side-text, sought, replaced-told, told, carried-told, told-steps, carried-text}
 use Rattle.window.proofs.Laws.Reports.{mode-with, pattern-mode, reported-lines, steps-cross, steps-apart, main-row, main-text}
-use Rattle.window.proofs.Theorems.Sessions.{key-follows}
+use Rattle.window.proofs.Theorems.Sessions.{session-keyed, key-follows}
 use Rattle.window.proofs.Theorems.KeyDoes.{key-plain, key-outcome, keyed-does}
 
 find-sound : (mode : Mode) (way : Direction) → ¬ Unsound mode (Find way)
@@ -37,10 +39,25 @@ module _ (s : Session) (b : Lent) (on : OnSession s b) where
   sound : SoundTexts (T (b .stores)) quarter state
   sound = session-view s b (on .fit) (on .ok) .good .sound .texts
 
-  -- A key that is neither unsound nor full is accepted, and reports and leaves what the plain editor does.
-  short-accepted : (k : Key) → ¬ Unsound (state .mode) k → ¬ (key (T (b .stores)) quarter k state ≡ refused FULL) → keyed s k b .answer .code ≡ 0
-  short-accepted k good short =
-      keyed-does s k b .accepted .1 (on, good, λ long. short (refused-full (T (b .stores)) quarter k state .1 (good, long)))
+  -- A key that gets neither KEY nor FULL nor LINE is accepted, and reports and leaves what the plain editor does.
+  short-accepted : (k : Key) → ¬ Unsound (state .mode) k → ¬ (key (T (b .stores)) quarter k state ≡ refused FULL)
+      → ¬ (key (T (b .stores)) quarter k state ≡ refused LINE) → keyed s k b .answer .code ≡ 0
+  short-accepted k good short fits =
+      let within : ¬ Exceeds (T (b .stores)) quarter (pressed k state .state) =
+      λ over. short (refused-full (T (b .stores)) quarter k state .1 (good, over)) in
+      keyed-does s k b .accepted .1 (on, good, within, λ long. fits (refused-line (T (b .stores)) quarter k state .1 (good, within, long)))
+
+  -- A call says LINE where the plain editor does.
+  line-said : (k : Key) → keyed s k b .answer .code ≢ LINE → ¬ (key (T (b .stores)) quarter k state ≡ refused LINE)
+  unfolding finished
+  line-said k other e = other (ap (λ o. o .answer .code) (session-keyed s k b (on .fit) (on .ok) ∙ ap (finished s b) e))
+
+  -- A move never gets it. (02, M-106.)
+  pub move-fits : (way : Direction) (place : Place) → keyed s (Function Move way place) b .answer .code ≢ LINE
+  move-fits way place e =
+      let (plain-on, good, within, long) = keyed-does s (Function Move way place) b .line .0 e in
+      move-never-line (T (b .stores)) quarter state sound way place
+      (refused-line (T (b .stores)) quarter (Function Move way place) state .1 (good, within, long))
 
   module _ (k : Key) (accepts : keyed s k b .answer .code ≡ 0) where
     key-reports : keyed s k b .answer .report ≡ pressed k state .report
@@ -50,13 +67,16 @@ module _ (s : Session) (b : Lent) (on : OnSession s b) where
     key-leads : held (keyed s k b .session) (keyed s k b .lent .stores) ≡ pressed k state .state
     key-leads = key-follows s k b (on .fit) (on .ok) .holds ∙ ap (after state) (key-plain s k b accepts)
 
-  -- A move or deletion, of the document in MAIN and of the quotation in QUOTED, that is not one of the two that get KEY.
-  module _ (action : Action) (way : Direction) (place : Place) (good : ¬ Unsound (state .mode) (Function action way place)) where
+  -- A move or deletion, of the document in MAIN and of the quotation in QUOTED, that is not one of the two that get KEY, and no deletion that
+  -- joins two lines to one that is too long.
+  module _ (action : Action) (way : Direction) (place : Place) (good : ¬ Unsound (state .mode) (Function action way place))
+      (fits : keyed s (Function action way place) b .answer .code ≢ LINE) where
     abbrev function-key : Key
     function-key = Function action way place
 
     pub function-accepted : keyed s (Function action way place) b .answer .code ≡ 0
-    function-accepted = short-accepted function-key good (function-never-full (T (b .stores)) quarter state sound action way place)
+    function-accepted =
+        short-accepted function-key good (function-never-full (T (b .stores)) quarter state sound action way place) (line-said function-key fits)
 
     function-told : keyed s function-key b .answer .report ≡ told (passageTo way (isAt place way) (textIn (state .mode) state))
     unfolding pressed acted onSide function
@@ -125,7 +145,9 @@ module _ (s : Session) (b : Lent) (on : OnSession s b) where
   -- FIND and UPFIND, in QUOTED with the quotation as the new pattern: the distance is to the nearest match in the document.
   module _ (way : Direction) where
     pub find-accepted : keyed s (Find way) b .answer .code ≡ 0
-    find-accepted = short-accepted (Find way) (find-sound (state .mode) way) (find-never-full (T (b .stores)) quarter state sound way)
+    find-accepted =
+        short-accepted (Find way) (find-sound (state .mode) way) (find-never-full (T (b .stores)) quarter state sound way)
+        (find-never-line (T (b .stores)) quarter state sound way)
 
     find-told : keyed s (Find way) b .answer .report ≡ told (passageTo way (matches (patternIn (state .mode) state)) (state .main .text))
     unfolding pressed acted found searched

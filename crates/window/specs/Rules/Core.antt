@@ -5,8 +5,10 @@ use Rattle.window.specs.Words.{Key, Search, Reached, Nowhere, Report, Fr
 use Rattle.gap.specs.Rules.Doc.{Doc}
 use Rattle.gap.specs.Rules.Nearest.{nearest}
 use Rattle.gap.specs.Rules.Layout.{allowed}
-use Rattle.editor.specs.Rules.Refusals.{SIZE, LONG, TEXT, SESSION}
+use Rattle.gap.specs.Rules.LineLimits.{longLine}
+use Rattle.editor.specs.Rules.Refusals.{SIZE, LONG, TEXT, SESSION, LINE}
 use Rattle.editor.specs.Rules.Plain.{Plain, opening, quiet, Did, Outcome, refused, done}
+use Rattle.editor.specs.Rules.LongLines.{longestLine}
 use Rattle.editor.specs.Rules.Keys.{key}
 use Rattle.editor.specs.Rules.Bytes.{Stores, quarter, sized, plainOf, lengthsOf, storesOf, editorOk, openingLengths}
 use Rattle.window.specs.Rules.Window.{virtual, rowOf, columnOf, window, visible, policy}
@@ -48,7 +50,7 @@ isSession s b = editorOk quarter (s .lengths) b && visible (s .frame) (virtual (
 
 -- ---- Answers
 
--- A refusal says its number and, for TEXT, the place; everything else is 0. (01, refusals: what a refusal leaves.)
+-- A refusal says its number and, for TEXT and opening's LINE, the place; everything else is 0. (01, refusals: what a refusal leaves. 02, M-106: place.)
 abbrev pub refusal : ℕ → ℕ → Answer
 refusal code place =
     record { code = code; place = place; report = quiet; first = 0; last = 0; row = 0; column = 0 }
@@ -100,15 +102,20 @@ openedText n H W b =
 abbrev pub badByte : ℕ → List ℕ → Search
 badByte n text = nearest (λ i. not (allowed (getD text i 0))) n 0
 
-abbrev pub unlessBad : Search → Lent → Called → Called
-unlessBad (Reached i) b o = unopened b TEXT i
-unlessBad Nowhere b o = o
+-- Where the first of its lines begins that the reader does not take. (02, M-106: place.)
+abbrev pub badLine : ℕ → List ℕ → Search
+badLine n text = longLine longestLine (take n text)
 
--- SIZE, then LONG, then TEXT; n is the stated length of the text. (01, refusals: order.)
+-- Opening is refused with a number at the place that was found.
+abbrev pub unlessAt : ℕ → Search → Lent → Called → Called
+unlessAt code (Reached i) b o = unopened b code i
+unlessAt code Nowhere b o = o
+
+-- SIZE, then LONG, then TEXT, then LINE; n is the stated length of the text. (01, refusals: order. 02, M-106: at opening after TEXT.)
 unfoldable pub opened : ℕ → ℕ → ℕ → Lent → Called
 opened n H W b =
     unless (check SIZE (tabled H W b) ∷ check LONG (leb n (T (b .stores))) ∷ []) (λ code. unopened b code 0)
-    (unlessBad (badByte n (b .stores .text)) b (openedText n H W b))
+    (unlessAt TEXT (badByte n (b .stores .text)) b (unlessAt LINE (badLine n (b .stores .text)) b (openedText n H W b)))
 
 -- ---- A key
 
@@ -135,7 +142,7 @@ unfoldable pub finished : Session → Lent → Outcome → Called
 finished s b (refused code) = turnedDown s b code
 finished s b (done did) = shown (s .frame) b did
 
--- SIZE, then SESSION, then what the plain editor says: KEY, FULL or done. (01, refusals: order.)
+-- SIZE, then SESSION, then what the plain editor says: KEY, FULL, LINE or done. (01, refusals: order. 02, M-106.)
 unfoldable pub keyed : Session → Key → Lent → Called
 keyed s k b =
     unless (check SIZE (tabled (s .frame .h) (s .frame .w) b) ∷ check SESSION (isSession s (b .stores)) ∷ []) (turnedDown s b)

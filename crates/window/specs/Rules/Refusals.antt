@@ -1,9 +1,11 @@
--- The checks of each call, in order: theorems say with them when each number is given. (01, refusals: order; 02, M-100: refusals.)
+-- The checks of each call, in order: theorems say with them when each number is given. (01, refusals: order; 02, M-100, M-106: refusals.)
 use Rattle.gap.specs.Rules.Checks.{Check, check}
 use Rattle.window.specs.Words.{List, [], _∷_, _&&_, ℕ, leb, length, take, Key, Session}
 use Rattle.gap.specs.Rules.Sequence.{every}
 use Rattle.gap.specs.Rules.Layout.{allowed, printable}
-use Rattle.editor.specs.Rules.Refusals.{SIZE, LONG, TEXT, SESSION, KEY, ROOM}
+use Rattle.gap.specs.Rules.LineLimits.{linesFit}
+use Rattle.editor.specs.Rules.Refusals.{SIZE, LONG, TEXT, SESSION, KEY, ROOM, LINE}
+use Rattle.editor.specs.Rules.LongLines.{longestLine}
 use Rattle.editor.specs.Rules.Keys.{soundKey, pressed, finishedChecks}
 use Rattle.editor.specs.Rules.Bytes.{quarter}
 use Rattle.window.specs.declared.host.Record.{Record}
@@ -15,7 +17,11 @@ use Rattle.window.specs.Rules.Host.{isHostSession, hostHeld, KeyNumbers,
 -- The checks of opening, in order.
 abbrev pub openingChecks : ℕ → ℕ → ℕ → Lent → List Check
 openingChecks n H W b =
-    check SIZE (tabled H W b) ∷ check LONG (leb n (T (b .stores))) ∷ check TEXT (every allowed (take n (b .stores .text))) ∷ []
+    check SIZE (tabled H W b)
+    ∷ check LONG (leb n (T (b .stores)))
+    ∷ check TEXT (every allowed (take n (b .stores .text)))
+    ∷ check LINE (linesFit longestLine (take n (b .stores .text)))
+    ∷ []
 
 -- The checks of a key, in order; what comes behind KEY is about the finished texts.
 abbrev pub keyChecks : Session → Key → Lent → List Check

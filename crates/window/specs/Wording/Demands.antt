@@ -6,10 +6,10 @@ use Rattle.window.specs.Words.{List, Bool, true, false, ℕ, _+_, _-_, D
 use Rattle.gap.specs.Rules.Doc.{Doc, content, room, move, delete, times}
 use Rattle.gap.specs.Rules.Nearest.{LeastMoves}
 use Rattle.gap.specs.Rules.Lines.{newlines}
-use Rattle.editor.specs.Rules.Refusals.{SIZE, SESSION, KEY, FULL, ROOM}
+use Rattle.editor.specs.Rules.Refusals.{SIZE, SESSION, KEY, FULL, ROOM, LINE}
 use Rattle.editor.specs.Rules.Passages.{linesPassed}
 use Rattle.editor.specs.Rules.Plain.{Plain, rang, went, Did, done}
-use Rattle.editor.specs.Rules.Keys.{pressed, key, Unsound, Exceeds}
+use Rattle.editor.specs.Rules.Keys.{pressed, key, Unsound, Exceeds, LongLine}
 use Rattle.editor.specs.Rules.Bytes.{quarter, lengthsOf, storesOf}
 use Rattle.window.specs.Rules.Window.{virtual, rowOf, columnOf, window, visible, policy}
 use Rattle.window.specs.Rules.Rows.{Shortest}
@@ -50,11 +50,20 @@ pub record KeyDoes (s : Session) (k : Key) (b : Lent) (o : Called) : Type 0 wher
   pub size : (o .answer .code ≡ SIZE) ↔ (tabled (s .frame .h) (s .frame .w) b ≡ false)
   pub session : (o .answer .code ≡ SESSION) ↔ ((tabled (s .frame .h) (s .frame .w) b ≡ true) × (isSession s (b .stores) ≡ false))
   -- KEY: a byte that is not allowed, one of two deletions, or MARK, CUT or PASTE in QUOTED. FULL: the finished text would exceed its store.
+  -- LINE: the finished document would have a line that is too long for the reader.
   pub unsound : (o .answer .code ≡ KEY) ↔ (OnSession s b × Unsound (held s (b .stores) .mode) k)
   pub full : (o .answer .code ≡ FULL)
       ↔ (OnSession s b × (¬ Unsound (held s (b .stores) .mode) k) × Exceeds (T (b .stores)) quarter (pressed k (held s (b .stores)) .state))
+  pub line : (o .answer .code ≡ LINE)
+      ↔ (OnSession s b
+      × (¬ Unsound (held s (b .stores) .mode) k)
+      × (¬ Exceeds (T (b .stores)) quarter (pressed k (held s (b .stores)) .state))
+      × LongLine (pressed k (held s (b .stores)) .state))
   pub accepted : (o .answer .code ≡ 0)
-      ↔ (OnSession s b × (¬ Unsound (held s (b .stores) .mode) k) × (¬ Exceeds (T (b .stores)) quarter (pressed k (held s (b .stores)) .state)))
+      ↔ (OnSession s b
+      × (¬ Unsound (held s (b .stores) .mode) k)
+      × (¬ Exceeds (T (b .stores)) quarter (pressed k (held s (b .stores)) .state))
+      × (¬ LongLine (pressed k (held s (b .stores)) .state)))
   -- Refused, the record comes back and no byte of the five stores has changed; place, steps, lines, bell, rows and cursor are 0.
   pub refused : o .answer .code ≢ 0 → o ≡ turnedDown s b (o .answer .code)
   -- Accepted, it is the plain editor's key.

@@ -1,6 +1,7 @@
 -- `edit_key` does what the plain editor says, on either side: a session gives the side what the key asks.
 use borrow.Author.Needs.{needs}
 use Rattle.editor.specs.Words.{Main, Quoted}
+use Rattle.editor.specs.Rules.LongLines.{longestLine}
 use Rattle.editor.specs.Rules.Bytes.{quarter}
 use Rattle.editor.proofs.Laws.Session.{measured}
 use Rattle.editor.proofs.Laws.Replies.{on-side, on-mode, on-quotation}
@@ -8,6 +9,7 @@ use Rattle.editor.proofs.keys.edit_key.Statement.{statement}
 use Rattle.editor.proofs.keys.edit_key.Tie as tie
 
 on-side-requires : tie.Need-on-side-requires
+unfolding longestLine
 on-side-requires c κs =
     let start : tie.Start = search in
     on-side quarter _ _ (start .pre .1) Main
@@ -18,6 +20,7 @@ edit-quotation-requires c κs =
     (measured quarter _ (start .pre .1 .tabled) .side, on-side quarter _ _ (start .pre .1) Quoted)
 
 returns : tie.Need-returns
+unfolding longestLine
 returns c =
     let done : tie.After-lifted = search in let turned : tie.After-on-side = search in let told : tie.After-enum-told = search in
     let start : tie.Start = search in

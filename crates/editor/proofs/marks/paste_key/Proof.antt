@@ -1,19 +1,19 @@
 -- `paste_key` is a RECALL of the held pair.
-use mathlib.Core.Path.{sym, subst}
 use borrow.Author.Needs.{needs}
+use Rattle.editor.specs.Rules.LongLines.{longestLine}
 use Rattle.editor.specs.Rules.Bytes.{quarter}
-use Rattle.editor.specs.Rules.Keys.{recalled}
-use Rattle.editor.specs.Wording.Promise.{OnSide, EditsSide}
 use Rattle.editor.proofs.Laws.Holding.{paste-done}
 use Rattle.editor.proofs.marks.paste_key.Statement.{statement}
 use Rattle.editor.proofs.marks.paste_key.Tie as tie
 
 recall-side-requires : tie.Need-recall-side-requires
+unfolding longestLine
 recall-side-requires c κs =
     let sizes : tie.After-holding-sizes = search in let start : tie.Start = search in
     rw (sizes .holding-sizes .ensures) (start .pre)
 
 returns : tie.Need-returns
+unfolding longestLine
 returns c =
     let lifted : tie.After-lifted-held = search in let turned : tie.After-recall-side = search in
     let sizes : tie.After-holding-sizes = search in

@@ -34,14 +34,14 @@ on-side-requires : tie.Need-on-side-requires
 unfolding quarter part
 on-side-requires c κs =
     let copied = c .before .before .before in
-    subst (OnSide _ _) (sym (own-is copied)) (copied .before .before .before .before .before .pre .1)
+    subst (OnSide _ _ _) (sym (own-is copied)) (copied .before .before .before .before .before .pre .1)
 
 copy-at-requires : tie.Need-copy-at-requires
 unfolding quarter
 copy-at-requires c κs =
     let after = c .before .before .before .before .before in
     let copied = after .before .before .before .before in
-    let same = after .on-side .kept .1 .1 in
+    let same = after .on-side .kept .1 .1 .1 in
     simp (length-append, length-drop)
     (omega (arith, copied .before .before .before .before .before .pre .0, copied .copy-front .kept .0, same .0, same .1 .0))
 
@@ -50,8 +50,8 @@ unfolding quarter part
 returns c =
     let after : tie.After-on-side = search in let copied : tie.After-copy-front = search in
     let start : tie.Start = search in
-    quotation-edited quarter (start .args .side .now) (start .pre .0) _ _ (editing (start .args .e)) _ _ _ _ (own-is copied)
-    (after .on-side .kept .1 .1 .0) (after .on-side .kept .1 .1 .1 .0) (after .on-side .ensures) (c .before .before .copy-at .ensures)
+    quotation-edited quarter (start .args .side .now) (start .pre .0) _ _ _ (editing (start .args .e)) _ _ _ _ (own-is copied)
+    (after .on-side .kept .1 .1 .1 .0) (after .on-side .kept .1 .1 .1 .1 .0) (after .on-side .ensures) (c .before .before .copy-at .ensures)
 
 pub edit-quotation-spec : {M : Type 1} → statement M
 edit-quotation-spec = tie.close (tie.spec

@@ -45,7 +45,7 @@ returns-2 c =
     let done : tie.After-lifted = search in let gone : tie.After-move-side = search in let told : tie.After-d = search in
     let found : tie.After-match-passage = search in
     λ recall held sound. search-done quarter _ _ sound _ _ _ (found .match-passage .ensures) (told .d .given .1) _ _ _ _ (done .lifted .ensures)
-    (gone .move-side .ensures _ (on-side quarter _ _ sound Main))
+    (gone .move-side .ensures _ _ (on-side quarter _ _ sound Main))
 
 pub search-spec : {M : Type 1} → statement M
 search-spec = tie.close (tie.spec

@@ -8,18 +8,18 @@ use Rattle.editor.specs.Words.{Main}
 use Rattle.gap.specs.Rules.Layout.{unpair}
 use Rattle.editor.specs.Rules.Bytes.{quarter, plainOf}
 use Rattle.editor.specs.Wording.Promise.{stores}
-use Rattle.editor.proofs.Laws.MarkedStates.{substituted-unheld}
+use Rattle.editor.proofs.Laws.MarkedStates.{substituted-unheld, substituted-lines}
 use Rattle.editor.proofs.Laws.Replies.{on-side}
 use Rattle.editor.proofs.Laws.Fitting.{fitting}
 use Rattle.editor.proofs.Laws.FindReplace.{Exchangeable, exchangeable, substitute-rings, pattern-dropped, substitute-done}
 use Rattle.editor.proofs.searches.substitute.Statement.{statement}
 use Rattle.editor.proofs.searches.substitute.Tie as tie
 
--- Where the pattern stands here, and the finished text is known to fit.
+-- Where the pattern stands here, and the finished text and its lines are known to fit.
 known : (c : tie.Else1) → let start = c .before .before .before .before in Exchangeable (start .args .n) (length (start .args .text .now))
 known c =
     let start : tie.Start = search in
-    exchangeable quarter _ _ (start .pre .1) (sym (start .pre .2 .known) ∙ not-false _ (c .if1 .left)) (start .pre .2 .room)
+    exchangeable quarter _ _ (start .pre .1) (sym (start .pre .2 .known) ∙ not-false _ (c .if1 .left)) (start .pre .2 .room) (start .pre .2 .lines)
 
 returns : tie.Need-returns
 unfolding plainOf
@@ -100,7 +100,8 @@ returns-2 c =
     let match = sym (start .pre .2 .known) ∙ not-false _ (here .if1 .left) in
     λ kept sound.
     let room = substituted-unheld _ _ (unpair _ _ kept) (plainOf quarter _ (stores _ _ (start .pre .0) _)) ∙ start .pre .2 .room in
-    substitute-done quarter _ _ sound match room _ _ _ _ (dropped .drop-right .ensures)
+    let lines = substituted-lines (unpair _ _ kept) (plainOf quarter _ (stores _ _ (start .pre .0) _)) ∙ start .pre .2 .lines in
+    substitute-done quarter _ _ sound match room lines _ _ _ _ (dropped .drop-right .ensures)
     (placed .place-pair .ensures) (held .hold .ensures) (lifted .lifted .ensures) (done .done .ensures) refl
 
 pub substitute-spec : {M : Type 1} → statement M

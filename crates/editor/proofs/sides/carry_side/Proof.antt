@@ -6,7 +6,7 @@ use Rattle.editor.proofs.sides.carry_side.Tie as tie
 returns : tie.Need-returns
 returns c =
     let done : tie.After-move-side = search in let told : tie.After-enum-told = search in let start : tie.Start = search in
-    rw (told .enum-told .given .1) (done .move-side .ensures _ (start .pre .0))
+    rw (told .enum-told .given .1) (done .move-side .ensures _ _ (start .pre .0))
 
 returns-2 : tie.Need-returns-2
 returns-2 c =

@@ -19,7 +19,7 @@ returns : tie.Need-returns
 returns c =
     let done : tie.After-done = search in let report : tie.After-went = search in let gone : tie.After-move-cursor = search in
     let sizes : tie.After-moved-by = search in let start : tie.Start = search in
-    λ recall on. moved on _ (done .done .ensures) (report .went .ensures) (start .pre .1) (sizes .moved-by .ensures) (gone .move-cursor .ensures)
+    λ limit recall on. moved on _ (done .done .ensures) (report .went .ensures) (start .pre .1) (sizes .moved-by .ensures) (gone .move-cursor .ensures)
 
 pub move-side-spec : {M : Type 1} → statement M
 move-side-spec = tie.close (tie.spec moved-by-requires move-cursor-requires

@@ -3,6 +3,7 @@ use native.Mathlib.Omega.{arith}
 use lib.ListN.{length-take}
 use borrow.Author.Needs.{needs}
 use Rattle.gap.specs.Rules.Sequence.{part}
+use Rattle.editor.specs.Rules.LongLines.{longestLine}
 use Rattle.editor.specs.Rules.Bytes.{quarter, editorOk}
 use Rattle.editor.proofs.Laws.Session.{measured}
 use Rattle.editor.proofs.stores.editor_ok.Statement.{statement}
@@ -37,16 +38,16 @@ part-sound-pair-end-3 c =
     omega arith
 
 returns : tie.Need-returns
-unfolding quarter part editorOk
+unfolding quarter longestLine part editorOk
 returns c =
     let third : tie.After-one-half3 = search in let sizes : tie.After-holding-sizes = search in let second : tie.After-one-half2 = search in
     let first : tie.After-one-half = search in let mark : tie.After-mark-within = search in let held : tie.After-sound-pair5 = search in
     let pair4 : tie.After-sound-pair4 = search in let pair3 : tie.After-sound-pair3 = search in let pair2 : tie.After-sound-pair2 = search in
-    let gap2 : tie.After-sound-gap2 = search in let pair1 : tie.After-sound-pair = search in let gap1 : tie.After-sound-gap = search in
+    let gap : tie.After-sound-gap = search in let pair1 : tie.After-sound-pair = search in let document : tie.After-sound-document = search in
     rw (
-      gap1 .sound-gap .ensures,
+      document .sound-document .ensures,
       pair1 .sound-pair .ensures,
-      gap2 .sound-gap2 .ensures,
+      gap .sound-gap .ensures,
       pair2 .sound-pair2 .ensures,
       pair3 .sound-pair3 .ensures,
       pair4 .sound-pair4 .ensures,
@@ -61,10 +62,10 @@ returns c =
 
 pub editor-ok-spec : {M : Type 1} → statement M
 editor-ok-spec = tie.close (tie.spec
-    (λ c κs. search needs)  -- sound-gap-requires
+    (λ c κs. search needs)  -- sound-document-requires
     (λ c κs. search needs)  -- sound-pair-requires
     slice-aggregate-sound-gap
-    (λ c κs. search needs)  -- sound-gap-requires-2
+    (λ c κs. search needs)  -- sound-gap-requires
     (λ c. search needs)  -- mul-sound-pair
     (λ c. search needs)  -- sub-sound-pair
     (λ c. search needs)  -- part-sound-pair-start
