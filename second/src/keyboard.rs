@@ -1,5 +1,6 @@
 //! Keys as terminals send them (02, M-107; readings, C30 to C32): the bytes of every key, and what bytes received are read as.
 
+use crate::core::{numbers_of, Numbers};
 use crate::plain::{Action, Direction, Key, Place, NEWLINE};
 
 pub const SEQUENCE: usize = 9;
@@ -45,6 +46,38 @@ pub enum Received {
     More,
     /// "9 SEQUENCE, on the first byte that no key continues; used then counts up to and including it."
     Sequence(usize),
+}
+
+/// What was received as the host's boundary has it: code and bytes used, and a key's numbers. All are 0 where more is needed.
+#[repr(C)]
+#[derive(Clone, Copy, Debug, Default, PartialEq, Eq)]
+pub struct Heard {
+    pub code: usize,
+    pub used: usize,
+    pub kind: usize,
+    pub a: usize,
+    pub b: usize,
+    pub c: usize,
+}
+
+impl Heard {
+    pub fn numbers(&self) -> Numbers {
+        let Heard { kind, a, b, c, .. } = *self;
+        Numbers { kind, a, b, c }
+    }
+}
+
+impl From<Received> for Heard {
+    fn from(received: Received) -> Heard {
+        match received {
+            Received::More => Heard::default(),
+            Received::Sequence(used) => Heard { code: SEQUENCE, used, ..Heard::default() },
+            Received::Key(key, used) => {
+                let Numbers { kind, a, b, c } = numbers_of(key);
+                Heard { code: 0, used, kind, a, b, c }
+            }
+        }
+    }
 }
 
 /// Every key that a terminal sends, with its bytes.
