@@ -43,7 +43,7 @@ impl Default for Record {
     }
 }
 
-/// What opening and a key answer: 0 or a refusal, by the numbers of include/chidukwore.h; the place of TEXT, or of an opening's LINE; then what
+/// What opening, a key and a conversion answer: 0 or a refusal, by the numbers of include/chidukwore.h; the place of TEXT, or of an opening's LINE; then what
 /// an accepted call reports.
 #[repr(C)]
 #[derive(Clone, Copy, Debug, Default, PartialEq, Eq)]
