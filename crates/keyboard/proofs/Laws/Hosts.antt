@@ -49,4 +49,5 @@ module _ {A : Type 0} (press : Key → A → A) where
       ap (arriveAll press pieces) (arrived piece h)
       ∙ all-arrived pieces (after now (h .at))
       ∙ ap (λ at. host at (later .waiting))
-      (sym (press-append (keysIn (now .items)) (keysIn (later .items)) (h .at)) ∙ ap (λ ks. pressAll press ks (h .at)) (sym (keys-append (now .items) (later .items))))
+      (sym (press-append (keysIn (now .items)) (keysIn (later .items)) (h .at))
+      ∙ ap (λ ks. pressAll press ks (h .at)) (sym (keys-append (now .items) (later .items))))
