@@ -413,6 +413,31 @@ fn smaller_conversions(call: &ConvertCall) -> Vec<ConvertCall> {
         }
         make(&editor);
     }
+    // Texts emptied with their lengths: those of the three stores, where the cursor is at the beginning then, and those of the quarters.
+    let mut with = |change: &dyn Fn(&mut ConvertCall)| {
+        let mut smaller = call.clone();
+        change(&mut smaller);
+        all.push(smaller);
+    };
+    with(&|ConvertCall { record, old, .. }| {
+        old.text.fill(0);
+        *record = Record { l: 0, r: 0, top: 0, left: 0, mark: NO_MARK, ..*record };
+    });
+    with(&|ConvertCall { record, old, .. }| (old.recall.fill(0), (record.rl, record.rr) = (0, 0)).1);
+    with(&|ConvertCall { record, old, .. }| (old.held.fill(0), (record.held_left, record.held_right) = (0, 0)).1);
+    for (quarter, lengths) in [[2, 3], [6, 7], [10, 10], [8, 9]].into_iter().enumerate() {
+        with(&|ConvertCall { record, old, .. }| {
+            old.side.chunks_mut(OLD_QUARTER).skip(quarter).take(1).for_each(|area| area.fill(0));
+            lengths.iter().for_each(|i| *record.fields()[*i] = 0);
+        });
+    }
+    for t in less(t, 0) {
+        with(&|ConvertCall { old, .. }| {
+            old.text.drain(t / 2..t / 2 + old.text.len() - t);
+            old.recall.truncate(t);
+            old.held.truncate(t);
+        });
+    }
     let values = { *given }.fields().map(|value| *value);
     for (i, value) in values.into_iter().enumerate() {
         for smaller in less(value, 0).chain((i == 18).then_some(NO_MARK)) {
