@@ -68,6 +68,8 @@ pub fn all(t: usize, h: usize, w: usize) -> Vec<Scene> {
         scene("steps, longest lines", &letters, &within_middle(&letters), &steps),
         scene("steps, lines of 512", &halves, &within_middle(&halves), &steps),
         scene("steps, short lines", &short, &within_middle(&short), &steps),
+        scene("typing in a quotation", &text, &[&middle[..], &[QUOTE]].concat(), &typed),
+        scene("FIND of a quotation", &text, &[&middle[..], &[QUOTE], &typing(b"operates")].concat(), &[FIND]),
     ]
 }
 

@@ -1,6 +1,6 @@
 //! Random walks that both cores go, compared in answer, record and every byte of the stores after each key.
 
-use crate::chidukwore::{insert, Key, Record, Reply, CUT, FIND, MARK, NEWLINE, PASTE, QUOTE, RECALL, REPLACE, TAB, UPFIND};
+use crate::chidukwore::{insert, Key, Record, Reply, CUT, FIND, MARK, NEWLINE, PASTE, QUOTE, RECALL, REPLACE, SIDE, TAB, UPFIND};
 use crate::random::Random;
 use crate::stores::Stores;
 use crate::{hand, proved};
@@ -120,7 +120,7 @@ fn damage(random: &mut Random, mut n: Record, stores: &mut Stores) -> Record {
             (n.qrl, n.qrr) = cut(n.qrl, n.qrr);
             (n.held_left, n.held_right) = cut(n.held_left, n.held_right);
         }
-        5 => side[random.below(1024)] = random.one(&[0, 9, 10, 97, 127]),
+        5 => side[random.below(SIDE)] = random.one(&[0, 9, 10, 97, 127]),
         6 => n.mark = n.l + n.r + random.below(2),
         7 => {
             let newline = text.iter_mut().filter(|b| **b == b'\n').nth(random.below(4));

@@ -6,7 +6,7 @@
 #include "chidukwore.h"
 
 enum { T = 16, ROWS = 2, COLUMNS = 4 };
-static uint8_t text[T], recall[T], held[T], side[1024], screen[ROWS * COLUMNS];
+static uint8_t text[T], recall[T], held[T], side[4096], old[1024], screen[ROWS * COLUMNS];
 static uint8_t buffer[ROWS * (COLUMNS + 7) + 9];
 static struct chidukwore_record record;
 
@@ -58,6 +58,16 @@ static void key(const char *what, size_t kind, size_t a, size_t b, size_t c)
     print(what, chidukwore_key(record, kind, a, b, c, text, T, recall, T, held, T, side, sizeof side, screen, sizeof screen));
 }
 
+/* The same session as an old core would have left it: its quarters have 256 bytes, and the pattern is in the third. */
+static void convert(void)
+{
+    old[512] = '2';
+    struct chidukwore_reply reply =
+        chidukwore_convert(record, text, T, recall, T, held, T, old, sizeof old, side, sizeof side);
+    record = reply.record;
+    printf("convert: code %zu, pattern %c\n", reply.answer.code, side[2048]);
+}
+
 int main(int argc, char **argv)
 {
     FILE *deck = argc == 2 ? fopen(argv[1], "rb") : NULL;
@@ -78,6 +88,7 @@ int main(int argc, char **argv)
     key("quote", CHIDUKWORE_QUOTE, 0, 0, 0);
     key("insert 2", CHIDUKWORE_INSERT, '2', 0, 0);
     key("find", CHIDUKWORE_FIND, CHIDUKWORE_RIGHT, 0, 0);
+    convert();
     key("delete right to a line beginning", CHIDUKWORE_FUNCTION, CHIDUKWORE_DELETE, CHIDUKWORE_RIGHT, CHIDUKWORE_LINE_BEGINNING);
     key("delete right to a line ending", CHIDUKWORE_FUNCTION, CHIDUKWORE_DELETE, CHIDUKWORE_RIGHT, CHIDUKWORE_LINE_ENDING);
     key("recall", CHIDUKWORE_RECALL, 0, 0, 0);

@@ -9,7 +9,7 @@
  *   text    T bytes, 1 to 65,536: the document
  *   recall  T bytes, the same T: the recall text
  *   held    T bytes, the same T: the held text, which CUT took and PASTE inserts
- *   side    1,024 bytes: quotation, its recall text, pattern, replacement
+ *   side    4,096 bytes, in quarters of 1,024: quotation, its recall text, pattern, replacement
  *   screen  rows times columns bytes, row by row; rows 1 to 64, columns 1 to 256
  *
  * Painting is lent two: the screen, which it only reads, and a buffer of any length for the bytes that go to a terminal.
@@ -28,15 +28,16 @@
 extern "C" {
 #endif
 
-/* Refusals. A call gives the first that applies: opening checks 1, 2, 3, 8, a key checks 1, 4, 5, 6, 8, painting checks 1, 3, 7. */
+/* Refusals. A call gives the first that applies: opening checks 1, 2, 3, 8, a key checks 1, 4, 5, 6, 8, painting checks 1, 3, 7,
+ * converting checks 1, 4. */
 enum {
     CHIDUKWORE_OK = 0,
     CHIDUKWORE_SIZE = 1,    /* a store's length, rows or columns are not as above; painting: or the named rows are off the screen, out of
-                               order, or 0 and another; or the cursor is off the screen */
+                               order, or 0 and another; or the cursor is off the screen; converting: the old side store has 1,024 bytes */
     CHIDUKWORE_LONG = 2,    /* opening: the stated length is more than T */
     CHIDUKWORE_TEXT = 3,    /* opening: a byte of the text is neither 10 nor 32 to 126; painting: a byte of the screen is not 32 to 126;
                                place is its index, from 0 */
-    CHIDUKWORE_SESSION = 4, /* key: record and stores are not a session, as said at the record */
+    CHIDUKWORE_SESSION = 4, /* key: record and stores are not a session, as said at the record; converting: so of the old stores */
     CHIDUKWORE_KEY = 5,     /* key: no such key, a byte that is not allowed, one of the two deletions that are not carried out, or in QUOTED
                                MARK, CUT or PASTE */
     CHIDUKWORE_FULL = 6,    /* key: the finished text would not fit its store */
@@ -76,7 +77,7 @@ enum {
  *
  * With the stores it is a session if all of these hold, as they do of whatever an accepted call gives back:
  *   mode is 0 or 1;
- *   the lengths fit: l + r, rl + rr and held_left + held_right are at most T, and ql + qr, qrl + qrr, xl + xr and pl at most 256, sums
+ *   the lengths fit: l + r, rl + rr and held_left + held_right are at most T, and ql + qr, qrl + qrr, xl + xr and pl at most 1,024, sums
  *   that never wrap;
  *   every byte of a text is 10 or 32 to 126, and every byte of text, recall, held and side that belongs to none is 0;
  *   no line of the document has more than 1,024 bytes, its newline not counted; the quotation's are not looked at;
@@ -87,11 +88,11 @@ enum {
  *   it is the quotation's, which stands on lines of its own at the document's cursor, the first begun by >. */
 struct chidukwore_record {
     size_t l, r;       /* document: its first l bytes are text[0 .. l), the others the last r bytes of text */
-    size_t ql, qr;     /* quotation, likewise in side[0 .. 256) */
+    size_t ql, qr;     /* quotation, likewise in side[0 .. 1024) */
     size_t rl, rr;     /* both halves of the document's recall text, one after the other at the front of recall */
-    size_t qrl, qrr;   /* both halves of the quotation's recall text, at side[256] */
-    size_t xl, xr;     /* both halves of the replacement, at side[768] */
-    size_t pl;         /* pattern, at side[512] */
+    size_t qrl, qrr;   /* both halves of the quotation's recall text, at side[1024] */
+    size_t xl, xr;     /* both halves of the replacement, at side[3072] */
+    size_t pl;         /* pattern, at side[2048] */
     size_t mode;       /* 0 MAIN, 1 QUOTED */
     size_t top, left;  /* window offsets r and c: rows and columns of the text above and left of the screen */
     size_t rows, columns;
@@ -125,6 +126,15 @@ struct chidukwore_reply chidukwore_open(size_t n, size_t rows, size_t columns, u
 struct chidukwore_reply chidukwore_key(struct chidukwore_record record, size_t kind, size_t a, size_t b, size_t c, uint8_t *text,
                                        size_t text_length, uint8_t *recall, size_t recall_length, uint8_t *held, size_t held_length,
                                        uint8_t *side, size_t side_length, uint8_t *screen, size_t screen_length);
+
+/* Converts a session from before a quarter of the side store had 1,024 bytes. Then it had 256: old is the side store of 1,024 bytes, and
+ * with it the record is a session as said above, its lengths in the quarters at most 256 in the place of 1,024; lines of the document may
+ * have 1,024 bytes as above. text, recall, held and old are only read. The new side store, of 4,096 bytes, is written over, and goes on
+ * with the other three and with the record, which comes back as it was given. Of the answer only code is not 0. Refused, no byte has
+ * changed. */
+struct chidukwore_reply chidukwore_convert(struct chidukwore_record record, const uint8_t *text, size_t text_length, const uint8_t *recall,
+                                           size_t recall_length, const uint8_t *held, size_t held_length, const uint8_t *old,
+                                           size_t old_length, uint8_t *side, size_t side_length);
 
 /* What painting answers. */
 struct chidukwore_painting {

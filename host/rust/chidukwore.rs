@@ -43,7 +43,7 @@ impl Default for Record {
     }
 }
 
-/// What opening and a key answer: 0 or a refusal, by the numbers of include/chidukwore.h; the place of TEXT, or of an opening's LINE; then what
+/// What opening, a key and a conversion answer: 0 or a refusal, by the numbers of include/chidukwore.h; the place of TEXT, or of an opening's LINE; then what
 /// an accepted call reports.
 #[repr(C)]
 #[derive(Clone, Copy, Debug, Default, PartialEq, Eq)]
@@ -115,6 +115,11 @@ extern "C" {
         text: *mut u8, text_length: usize, recall: *mut u8, recall_length: usize, held: *mut u8, held_length: usize,
         side: *mut u8, side_length: usize, screen: *mut u8, screen_length: usize,
     ) -> Reply;
+    fn chidukwore_convert(
+        record: Record,
+        text: *const u8, text_length: usize, recall: *const u8, recall_length: usize, held: *const u8, held_length: usize,
+        old: *const u8, old_length: usize, side: *mut u8, side_length: usize,
+    ) -> Reply;
     fn chidukwore_paint(
         rows: usize, columns: usize, first: usize, last: usize, row: usize, column: usize,
         screen: *const u8, screen_length: usize, buffer: *mut u8, buffer_length: usize,
@@ -145,6 +150,32 @@ pub fn key(record: Record, Key(kind, a, b, c): Key, lent: Stores) -> Reply {
             record, kind, a, b, c,
             text.as_mut_ptr(), text.len(), recall.as_mut_ptr(), recall.len(), held.as_mut_ptr(), held.len(),
             side.as_mut_ptr(), side.len(), screen.as_mut_ptr(), screen.len(),
+        )
+    }
+}
+
+/// The length of the side store, and the one that it had before conversion.
+pub const SIDE: usize = 4096;
+pub const OLD_SIDE: usize = 1024;
+
+/// An old session's stores, which the conversion only reads.
+pub struct OldStores<'a> {
+    pub text: &'a [u8],
+    pub recall: &'a [u8],
+    pub held: &'a [u8],
+    pub old: &'a [u8],
+}
+
+/// Converts an old session: the new side store is written over, and the record comes back as it was given.
+#[rustfmt::skip]
+pub fn convert(record: Record, stores: OldStores, side: &mut [u8]) -> Reply {
+    let OldStores { text, recall, held, old } = stores;
+    // Sound: as above.
+    unsafe {
+        chidukwore_convert(
+            record,
+            text.as_ptr(), text.len(), recall.as_ptr(), recall.len(), held.as_ptr(), held.len(),
+            old.as_ptr(), old.len(), side.as_mut_ptr(), side.len(),
         )
     }
 }

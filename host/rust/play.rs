@@ -8,7 +8,7 @@
 mod chidukwore;
 mod script;
 
-use chidukwore::{enough, Answer, Record, Reply, Stores};
+use chidukwore::{enough, Answer, Record, Reply, Stores, SIDE};
 use script::Script;
 use std::io::{self, Read, Write};
 
@@ -53,7 +53,7 @@ fn play(script: &Script, frames: bool) -> Result<(), String> {
     let Script { rows, columns, store, .. } = *script;
     // A screen larger than any is refused whatever is lent.
     let (h, w) = if rows <= 64 && columns <= 256 { (rows, columns) } else { (0, 0) };
-    let (recall, held, side) = (vec![0; store], vec![0; store], vec![0; 1024]);
+    let (recall, held, side) = (vec![0; store], vec![0; store], vec![0; SIDE]);
     let (screen, buffer) = (vec![0; h * w], vec![0; enough(h, w)]);
     let mut bench = Bench { text: script.text.clone(), recall, held, side, screen, buffer, record: Record::default(), frames };
     bench.text.resize(store, 0);

@@ -3,7 +3,9 @@
 
 mod chidukwore;
 
-use chidukwore::{insert, Answer, Key, Record, Reply, Stores, CUT, FIND, MARK, NEWLINE, PASTE, QUOTE, RECALL, TAB};
+use chidukwore::{
+    insert, Answer, Key, OldStores, Record, Reply, Stores, CUT, FIND, MARK, NEWLINE, OLD_SIDE, PASTE, QUOTE, RECALL, SIDE, TAB,
+};
 use std::process::ExitCode;
 
 const T: usize = 16;
@@ -15,7 +17,7 @@ struct Bench {
     text: [u8; T],
     recall: [u8; T],
     held: [u8; T],
-    side: [u8; 1024],
+    side: [u8; SIDE],
     screen: [u8; ROWS * COLUMNS],
     record: Record,
 }
@@ -42,6 +44,16 @@ impl Bench {
     fn key(&mut self, what: &str, key: Key) {
         let reply = chidukwore::key(self.record, key, self.lent());
         self.print(what, reply);
+    }
+
+    /// The same session as an old core would have left it: its quarters have 256 bytes, and the pattern is in the third.
+    fn convert(&mut self) {
+        let mut old = [0; OLD_SIDE];
+        old[512] = b'2';
+        let Bench { text, recall, held, side, .. } = self;
+        let reply = chidukwore::convert(self.record, OldStores { text, recall, held, old: &old }, side);
+        self.record = reply.record;
+        println!("convert: code {}, pattern {}", reply.answer.code, char::from(self.side[2048]));
     }
 
     /// Says whether the call was accepted.
@@ -73,7 +85,7 @@ fn main() -> ExitCode {
         return ExitCode::FAILURE;
     };
     let (text, recall, held) = ([0; T], [0; T], [0; T]);
-    let mut bench = Bench { text, recall, held, side: [0; 1024], screen: [0; ROWS * COLUMNS], record: Record::default() };
+    let mut bench = Bench { text, recall, held, side: [0; SIDE], screen: [0; ROWS * COLUMNS], record: Record::default() };
     if !bench.open(&deck) {
         return ExitCode::FAILURE;
     }
@@ -82,6 +94,7 @@ fn main() -> ExitCode {
     bench.key("quote", QUOTE);
     bench.key("insert 2", insert(b'2'));
     bench.key("find", FIND);
+    bench.convert();
     bench.key("delete right to a line beginning", Key(1, 1, 1, 2));
     bench.key("delete right to a line ending", Key(1, 1, 1, 3));
     bench.key("recall", RECALL);

@@ -84,3 +84,30 @@ pub unsafe extern "C" fn chidukwore_paint(
     let ask = Ask { h, w, first, last, row, column };
     paint(ask, from_raw_parts(screen, screen_length), from_raw_parts_mut(buffer, buffer_length))
 }
+
+/// # Safety
+/// As the header says.
+#[no_mangle]
+pub unsafe extern "C" fn chidukwore_convert(
+    record: Record,
+    text: *const u8,
+    text_length: usize,
+    recall: *const u8,
+    recall_length: usize,
+    held: *const u8,
+    held_length: usize,
+    old: *const u8,
+    old_length: usize,
+    side: *mut u8,
+    side_length: usize,
+) -> Reply {
+    let copy = |store: *const u8, length: usize| from_raw_parts(store, length).to_vec();
+    let stores = Stores {
+        text: copy(text, text_length),
+        recall: copy(recall, recall_length),
+        held: copy(held, held_length),
+        side: copy(old, old_length),
+        screen: Vec::new(),
+    };
+    Second.convert(record, &stores, from_raw_parts_mut(side, side_length))
+}

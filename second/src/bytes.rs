@@ -1,4 +1,5 @@
-//! The record and the five stores (01, "What the core holds"; 02, M-101, M-106): sizes, encoding, decoding, and the session test by its sentences.
+//! The record and the five stores (01, "What the core holds"; 02, M-101, M-106, M-109): sizes, encoding, decoding, and the session test
+//! by its sentences.
 
 use crate::plain::{allowed, Doc, Edited, Editor, Mode, QUARTER};
 use crate::reader::too_long;
@@ -7,6 +8,7 @@ use crate::window::{virtual_text, visible, Offsets};
 pub const LARGEST_T: usize = 65_536;
 pub const LARGEST_H: usize = 64;
 pub const LARGEST_W: usize = 256;
+/// "So the store has 4,096" (02, M-109).
 pub const SIDE: usize = 4 * QUARTER;
 /// What the record says of the mark where there is none.
 pub const NO_MARK: usize = usize::MAX;
@@ -90,13 +92,17 @@ impl Stores {
 
 /// Is each store's length, and H and W, as tabled?
 pub fn sizes_fit(stores: &Stores, h: usize, w: usize) -> bool {
+    sizes_fit_unseen(stores, h, w, SIDE) && stores.screen.len() == h * w
+}
+
+/// The same where no screen is lent, for a side store of so many bytes.
+pub fn sizes_fit_unseen(stores: &Stores, h: usize, w: usize, side: usize) -> bool {
     (1..=LARGEST_T).contains(&stores.text.len())
         && stores.recall.len() == stores.text.len()
         && stores.held.len() == stores.text.len()
-        && stores.side.len() == SIDE
+        && stores.side.len() == side
         && (1..=LARGEST_H).contains(&h)
         && (1..=LARGEST_W).contains(&w)
-        && stores.screen.len() == h * w
 }
 
 /// Left text at the front, right text at the back, zeros between.
@@ -117,12 +123,17 @@ fn pair(doc: &Doc, length: usize) -> Vec<u8> {
 /// The text store, the recall store, the held text's store and the side store of a plain state. The screen isn't a matter of the state
 /// alone.
 pub fn encode(editor: &Editor, t: usize) -> (Vec<u8>, Vec<u8>, Vec<u8>, Vec<u8>) {
+    encode_by(editor, t, QUARTER)
+}
+
+/// The same with a side store whose quarters are so long.
+pub fn encode_by(editor: &Editor, t: usize, length: usize) -> (Vec<u8>, Vec<u8>, Vec<u8>, Vec<u8>) {
     let pattern = Doc::new(&editor.pattern, &[]);
     let side = [
-        gap(&editor.quoted.text, QUARTER),
-        pair(&editor.quoted.recall, QUARTER),
-        pair(&pattern, QUARTER),
-        pair(&editor.replacement, QUARTER),
+        gap(&editor.quoted.text, length),
+        pair(&editor.quoted.recall, length),
+        pair(&pattern, length),
+        pair(&editor.replacement, length),
     ];
     (gap(&editor.main.text, t), pair(&editor.main.recall, t), pair(&editor.held, t), side.concat())
 }
@@ -159,8 +170,13 @@ fn fit(l: usize, r: usize, area: &[u8]) -> bool {
 
 /// The plain state that record and stores stand for, if they are a session. The sizes are known to be right.
 pub fn session(record: &Record, stores: &Stores) -> Option<Editor> {
+    session_by(record, stores, QUARTER)
+}
+
+/// The same with a side store whose quarters are so long. The screen is no part of it (readings, B17).
+pub fn session_by(record: &Record, stores: &Stores, length: usize) -> Option<Editor> {
     let Record { l, r, ql, qr, rl, rr, qrl, qrr, xl, xr, pl, held_left, held_right, .. } = *record;
-    let quarter = |i: usize| &stores.side[i * QUARTER..(i + 1) * QUARTER];
+    let quarter = |i: usize| &stores.side[i * length..(i + 1) * length];
 
     // Lengths fit their areas.
     let fitting = fit(l, r, &stores.text)

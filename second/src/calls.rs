@@ -1,7 +1,7 @@
 //! Calls at the host's boundary: keys on sessions that are made directly (not only such as keys lead to) and then often damaged,
 //! openings of anything, and small arbitrary numbers and bytes.
 
-use crate::bytes::{encode, record, Record, Stores, LARGEST_T, NO_MARK};
+use crate::bytes::{encode, record, Record, Stores, LARGEST_T, NO_MARK, SIDE};
 use crate::core::{numbers_of, Core, Numbers, Reply};
 use crate::damage;
 use crate::generate::{columns, deck, function, length, letters, rows, store, text, DIRECTIONS, NOT_ALLOWED};
@@ -47,7 +47,7 @@ pub fn call(random: &mut Random) -> (Call, bool) {
 }
 
 /// T; one time in a hundred as large as it may be, or nearly.
-fn any_store(random: &mut Random) -> usize {
+pub fn any_store(random: &mut Random) -> usize {
     match random.below(100) {
         0 => random.pick(&[LARGEST_T, LARGEST_T, LARGEST_T - 1, 4_097, 30_000]),
         _ => store(random),
@@ -55,7 +55,7 @@ fn any_store(random: &mut Random) -> usize {
 }
 
 /// A text with its cursor at either end or anywhere.
-fn doc(random: &mut Random, text: Vec<u8>) -> Doc {
+pub fn doc(random: &mut Random, text: Vec<u8>) -> Doc {
     let at = match random.below(5) {
         0 => 0,
         1 => text.len(),
@@ -83,11 +83,11 @@ fn recall(random: &mut Random, letters: &[u8], room: usize, area: usize) -> Doc 
 }
 
 /// A pattern: most often one that r begins with, or that stands somewhere in the document.
-fn pattern(random: &mut Random, letters: &[u8], document: &Doc) -> Vec<u8> {
+fn pattern(random: &mut Random, letters: &[u8], document: &Doc, area: usize) -> Vec<u8> {
     let content = document.content();
     let kind = random.weighted(&[45, 20, 12, 20, 3]);
     let from = if kind == 0 { document.l.len() } else { random.within(0, content.len()) };
-    let most = (content.len() - from).min(QUARTER);
+    let most = (content.len() - from).min(area);
     match kind {
         0 | 1 => {
             let n = if random.percent(80) { random.within(0, most.min(6)) } else { random.within(0, most) };
@@ -99,21 +99,21 @@ fn pattern(random: &mut Random, letters: &[u8], document: &Doc) -> Vec<u8> {
             text(random, letters, n)
         }
         _ => {
-            let n = random.within(250, QUARTER);
+            let n = random.within(area - 6, area);
             text(random, letters, n)
         }
     }
 }
 
-/// Any state that a session can hold. `room` is what REPLACE may fill: what is free, and the pattern's own room.
-fn editor(random: &mut Random, t: usize) -> Editor {
+/// Any state that a session with such quarters can hold. `room` is what REPLACE may fill: what is free, and the pattern's own room.
+pub fn editor(random: &mut Random, t: usize, area: usize) -> Editor {
     let letters = letters(random);
     let n = length(random, t);
     let content = deck(random, letters, n);
     let document = doc(random, content);
     let recall_text = recall(random, letters, t - n, t);
     let held = recall(random, letters, t - n, t);
-    let pattern = pattern(random, letters, &document);
+    let pattern = pattern(random, letters, &document, area);
     let room = t - n + pattern.len();
     let quarter = |random: &mut Random| {
         let n = match random.below(8) {
@@ -121,11 +121,11 @@ fn editor(random: &mut Random, t: usize) -> Editor {
             1 => room,
             2 => room + 1,
             3 => room.saturating_sub(1),
-            4 => random.within(QUARTER - 9, QUARTER),
-            5 => random.within(0, QUARTER),
+            4 => random.within(area - 9, area),
+            5 => random.within(0, area),
             _ => random.within(0, 6),
         };
-        let text = deck(random, letters, n.min(QUARTER));
+        let text = deck(random, letters, n.min(area));
         doc(random, text)
     };
     let replacement = quarter(random);
@@ -134,12 +134,12 @@ fn editor(random: &mut Random, t: usize) -> Editor {
     if random.percent(45) {
         editor.quoted.text = if random.percent(35) {
             // One that FIND meets.
-            let pattern = self::pattern(random, letters, &editor.main.text);
+            let pattern = self::pattern(random, letters, &editor.main.text, area);
             doc(random, pattern)
         } else {
             quarter(random)
         };
-        editor.quoted.recall = recall(random, letters, QUARTER - editor.quoted.text.length(), QUARTER);
+        editor.quoted.recall = recall(random, letters, area - editor.quoted.text.length(), area);
         editor.mode = Mode::Quoted;
     }
     editor
@@ -168,7 +168,7 @@ fn mark(random: &mut Random, editor: &Editor, key: Key, t: usize) -> Option<usiz
 }
 
 /// Offsets that show the cursor, most often just so.
-fn offsets(random: &mut Random, text: &Doc, h: usize, w: usize) -> Offsets {
+pub fn offsets(random: &mut Random, text: &Doc, h: usize, w: usize) -> Offsets {
     let (row, column) = cursor(text);
     let mut between = |low: usize, high: usize| match random.below(3) {
         0 => low,
@@ -178,7 +178,7 @@ fn offsets(random: &mut Random, text: &Doc, h: usize, w: usize) -> Offsets {
     Offsets { r: between(row.saturating_sub(h), row - 1), c: between(column.saturating_sub(w), column) }
 }
 
-fn key(random: &mut Random, letters: &[u8]) -> Key {
+pub fn key(random: &mut Random, letters: &[u8]) -> Key {
     match random.weighted(&[15, 4, 35, 12, 8, 10, 16, 4, 12, 10, 10, 10]) {
         0 => Key::Insert(random.pick(letters)),
         1 => Key::Insert(random.pick(&NOT_ALLOWED)),
@@ -201,7 +201,7 @@ fn on_session(random: &mut Random, times: usize) -> Call {
     // One time in ten a small session whose lines are then lengthened.
     let long = random.percent(10);
     let mut t = if long { random.within(1, 64) } else { any_store(random) };
-    let mut editor = editor(random, t);
+    let mut editor = editor(random, t, QUARTER);
     let letters = letters(random);
     let key = if long && random.percent(85) { long_lines::key(random) } else { key(random, letters) };
     editor.mark = mark(random, &editor, key, t);
@@ -236,7 +236,7 @@ fn on_session(random: &mut Random, times: usize) -> Call {
     for _ in 0..times {
         match random.weighted(&[45, 25, 20, 10]) {
             0 => damage::record(random, &mut record, &mut stores, &seen),
-            1 => damage::byte(random, &record, &mut stores),
+            1 => damage::byte(random, &record, &mut stores, QUARTER),
             2 => damage::length(random, &mut stores),
             _ => damage::key(random, &mut numbers),
         }
@@ -310,7 +310,7 @@ fn arbitrary(random: &mut Random) -> Call {
         stores.recall[random.below(t)] = random.pick(&[0, 10, 32, b'a', 127]);
         stores.held[random.below(t)] = random.pick(&[0, 0, 10, 32, b'a', 127]);
         stores.side[random.below(4) * QUARTER] = random.pick(&[0, 10, 32, b'a', 127]);
-        stores.side[random.below(1_024)] = random.pick(&[0, 0, 0, b'a']);
+        stores.side[random.below(SIDE)] = random.pick(&[0, 0, 0, b'a']);
     }
     let numbers = Numbers { kind: random.below(12), a: random.below(4), b: random.below(3), c: random.below(6) };
     Call { kind: Kind::Key { record, numbers }, stores }

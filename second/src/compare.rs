@@ -28,6 +28,10 @@ pub struct Counts {
     pub damaged: usize,
     pub painted: Codes,
     pub paintings_damaged: usize,
+    pub converted: Codes,
+    pub conversions_damaged: usize,
+    /// Keys on sessions that were converted.
+    pub on_converted: Codes,
 }
 
 /// Calls by their codes.

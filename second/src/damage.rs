@@ -1,13 +1,15 @@
 //! Damage to the record, to a byte of a store, to a store's length, to the numbers of a key.
 
 use crate::bytes::{Record, Stores, LARGEST_T, NO_MARK};
+use crate::convert::OLD_SIDE;
 use crate::core::Numbers;
-use crate::plain::Doc;
+use crate::plain::{Doc, QUARTER};
 use crate::random::Random;
 use crate::window::cursor;
 
-/// 2^32 and a little: what is left of it in half a word looks sound.
-pub const HUGE: [usize; 9] = [usize::MAX, usize::MAX - 1, 1 << 63, (1 << 63) - 1, 1 << 32, (1 << 32) + 1, 65_536, 65_537, 257];
+/// 2^32 and a little: what is left of it in half a word looks sound. The last is one more than a quarter has.
+pub const HUGE: [usize; 10] =
+    [usize::MAX, usize::MAX - 1, 1 << 63, (1 << 63) - 1, 1 << 32, (1 << 32) + 1, 65_536, 65_537, 257, QUARTER + 1];
 
 pub fn record(random: &mut Random, record: &mut Record, stores: &mut Stores, seen: &Doc) {
     let (row, column) = cursor(seen);
@@ -57,8 +59,8 @@ pub fn record(random: &mut Random, record: &mut Record, stores: &mut Stores, see
     }
 }
 
-/// One byte changed, most often where a text ends.
-pub fn byte(random: &mut Random, record: &Record, stores: &mut Stores) {
+/// One byte changed, most often where a text ends, or a quarter of this length.
+pub fn byte(random: &mut Random, record: &Record, stores: &mut Stores, quarter: usize) {
     let t = stores.text.len();
     let r = record;
     let (store, edges): (&mut Vec<u8>, Vec<usize>) = match random.below(4) {
@@ -66,8 +68,10 @@ pub fn byte(random: &mut Random, record: &Record, stores: &mut Stores) {
         1 => (&mut stores.recall, vec![0, r.rl.wrapping_add(r.rr), t.wrapping_sub(1)]),
         2 => (&mut stores.held, vec![0, r.held_left.wrapping_add(r.held_right), t.wrapping_sub(1)]),
         _ => {
-            let edges = [0, r.ql, 256_usize.wrapping_sub(r.qr), 255, 256, r.qrl.wrapping_add(r.qrr).wrapping_add(256), 511, 512];
-            let others = [r.pl.wrapping_add(512), 767, 768, r.xl.wrapping_add(r.xr).wrapping_add(768), 1_023];
+            let [_, second, third, fourth, end] = [0, 1, 2, 3, 4].map(|i| i * quarter);
+            let pair = |from: usize, l: usize, r: usize| from.wrapping_add(l).wrapping_add(r);
+            let edges = [0, r.ql, second.wrapping_sub(r.qr), second - 1, second, pair(second, r.qrl, r.qrr), third - 1, third];
+            let others = [pair(third, r.pl, 0), fourth - 1, fourth, pair(fourth, r.xl, r.xr), end - 1];
             (&mut stores.side, [&edges[..], &others[..]].concat())
         }
     };
@@ -81,7 +85,7 @@ pub fn byte(random: &mut Random, record: &Record, stores: &mut Stores) {
 
 pub fn length(random: &mut Random, stores: &mut Stores) {
     let Stores { text, recall, held, side, screen } = stores;
-    match random.below(6) {
+    match random.below(7) {
         0 => {
             [text, recall, held, side, screen][random.below(5)].pop();
         }
@@ -93,6 +97,8 @@ pub fn length(random: &mut Random, stores: &mut Stores) {
         4 => [held, recall, text][random.below(4).saturating_sub(1)..].iter_mut().for_each(|store| {
             store.pop();
         }),
+        // A side store as long as it was before M-109, or nearly.
+        5 => side.resize(random.pick(&[OLD_SIDE, OLD_SIDE, OLD_SIDE - 1, OLD_SIDE + 1]), 0),
         _ => {
             if random.percent(3) {
                 let t = random.pick(&[LARGEST_T, LARGEST_T + 1]);

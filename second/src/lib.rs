@@ -1,14 +1,17 @@
 //! The second program: documents 01 and 02 written out as plainly as they read, to compare the proved core with.
 //!
 //! The editor stands in `plain`, its mark in `mark`, what NEWLINE and TAB insert in `indent`, the lines a deck's reader takes in `reader`,
-//! its bytes in `bytes`, its screen in `window`, the calls on stores in `core`, the bytes for terminals in `paint` and a terminal in
-//! `terminal`, the bench program in `script`. The other files make inputs (`random`, `generate`, `long_lines`; `walk` and `unreadable`
-//! scripts, `calls` and their `damage`, `paint_calls`), compare them (`compare`, `painted`), and find and print the smallest that shows a
-//! difference (`shrink`, `show`).
+//! its bytes in `bytes`, its screen in `window`, the calls on stores in `core`, the conversion of old sessions in `convert`, the bytes for
+//! terminals in `paint` and a terminal in `terminal`, the bench program in `script`. The other files make inputs (`random`, `generate`,
+//! `long_lines`; `walk` and `unreadable` scripts, `calls` and their `damage`, `paint_calls`, `convert_calls`), compare them (`compare`,
+//! `painted`, `converted`), and find and print the smallest that shows a difference (`shrink`, `show`).
 
 pub mod bytes;
 pub mod calls;
 pub mod compare;
+pub mod convert;
+pub mod convert_calls;
+pub mod converted;
 pub mod core;
 pub mod damage;
 pub mod generate;

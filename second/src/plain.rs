@@ -1,6 +1,6 @@
-//! The plain editor (01, "The plain editor"; 02, M-101, M-103 to M-106; readings, B and C; 001, sections 1.1 to 1.5): two sequences,
-//! places, distances by trying each d, keys. Nothing here knows of stores or screens. A key works on texts without bound; only the
-//! finished text is held against its room and the reader.
+//! The plain editor (01, "The plain editor"; 02, M-101, M-103 to M-106, M-109; readings, B and C; 001, sections 1.1 to 1.5): two
+//! sequences, places, distances by trying each d, keys. Nothing here knows of stores or screens. A key works on texts without bound;
+//! only the finished text is held against its room and the reader.
 
 use crate::indent;
 use crate::mark::{after_deletion, after_insertion, Mark};
@@ -9,8 +9,8 @@ use std::collections::VecDeque;
 
 pub const NEWLINE: u8 = 10;
 pub const SPACE: u8 = 32;
-/// The room of a quotation, of its recall text, of the pattern and of the replacement.
-pub const QUARTER: usize = 256;
+/// The room of a quotation, of its recall text, of the pattern and of the replacement: "raise each quarter [...] to 1,024" (02, M-109).
+pub const QUARTER: usize = 1_024;
 
 pub fn allowed(byte: u8) -> bool {
     byte == NEWLINE || (32..=126).contains(&byte)

@@ -2,9 +2,12 @@
 
 use crate::bytes::{Record, Stores, NO_MARK};
 use crate::calls::{Call, Kind};
+use crate::convert::OLD_QUARTER;
+use crate::convert_calls::{ConvertCall, Converted};
 use crate::core::Reply;
 use crate::paint::Painting;
 use crate::paint_calls::PaintCall;
+use crate::plain::QUARTER;
 
 /// A script, with odd bytes so that `printf %b` gives it back.
 pub fn script(bytes: &[u8]) -> String {
@@ -45,11 +48,11 @@ fn bytes(bytes: &[u8]) -> String {
 }
 
 /// The stores, the side store by its quarters; one that is too long has a fifth.
-fn areas(stores: &Stores) -> Vec<(&str, &[u8])> {
+fn areas(stores: &Stores, quarter: usize) -> Vec<(&str, &[u8])> {
     let names = ["quotation", "its recall", "pattern", "replacement", "more"];
     let mut areas =
         vec![("text", &stores.text[..]), ("recall", &stores.recall), ("held", &stores.held), ("screen", &stores.screen)];
-    areas.extend(names.into_iter().zip(stores.side.chunks(256)));
+    areas.extend(names.into_iter().zip(stores.side.chunks(quarter)));
     areas
 }
 
@@ -75,13 +78,13 @@ pub fn call(call: &Call) -> String {
             format!("  key         kind={} a={} b={} c={}\n{}", key.kind, key.a, key.b, key.c, numbers(record))
         }
     };
-    let shown = areas(&call.stores).into_iter().filter(|(_, area)| *area != [0; 256]);
+    let shown = areas(&call.stores, QUARTER).into_iter().filter(|(_, area)| *area != [0; QUARTER]);
     head + &shown.map(|area| line(&area)).collect::<String>()
 }
 
 /// The answer, the record, and what the call changed in the stores.
 pub fn outcome(call: &Call, (reply, after): &(Reply, Stores)) -> String {
-    let (before, after) = (areas(&call.stores), areas(after));
+    let (before, after) = (areas(&call.stores, QUARTER), areas(after, QUARTER));
     let changed = after.into_iter().zip(before).filter(|(now, before)| now != before);
     let head = format!("  {:?}\n{}", reply.answer, numbers(reply.record));
     head + &changed.map(|(now, _)| line(&now)).collect::<String>()
@@ -96,4 +99,25 @@ pub fn painting(call: &PaintCall) -> String {
 /// Its answer, and the whole buffer.
 pub fn painted((painting, buffer): &(Painting, Vec<u8>)) -> String {
     format!("  {painting:?}\n") + &line(&("buffer", buffer))
+}
+
+/// A conversion; old quarters of zeros are left out.
+pub fn conversion(call: &ConvertCall) -> String {
+    let head = format!("  keys        {:?}\n{}", call.keys, numbers(call.record));
+    let empty = |area: &[u8]| area.iter().all(|byte| *byte == 0) && area.len() == OLD_QUARTER || area.is_empty();
+    let old = areas(&call.old, OLD_QUARTER).into_iter().filter(|(_, area)| !empty(area));
+    let lengths = format!("  old side    {} bytes\n", call.old.side.len());
+    head + &old.map(|area| line(&area)).collect::<String>() + &lengths + &line(&("new side", &call.side))
+}
+
+/// The reply, the new side store by its quarters, and the answers to the keys.
+pub fn converted(converted: &Converted) -> String {
+    let Converted { reply, side, after } = converted;
+    let head = format!("  {:?}\n{}", reply.answer, numbers(reply.record));
+    let quarters = side.chunks(QUARTER).map(|quarter| line(&("new side", quarter))).collect::<String>();
+    let keys = after.iter().map(|(reply, stores)| {
+        let changed = areas(stores, QUARTER).iter().map(line).collect::<String>();
+        format!("  {:?}\n{}{changed}", reply.answer, numbers(reply.record))
+    });
+    head + &quarters + &keys.collect::<String>()
 }

@@ -1,10 +1,12 @@
 //! From an input that shows a difference to the smallest one found that still does: whatever can be left out is left out.
 
-use crate::bytes::{encode, record, session, sizes_fit, Stores, NO_MARK};
+use crate::bytes::{encode, encode_by, record, session, session_by, sizes_fit, sizes_fit_unseen, Record, Stores, NO_MARK};
 use crate::calls::{Call, Kind};
+use crate::convert::{OLD_QUARTER, OLD_SIDE};
+use crate::convert_calls::ConvertCall;
 use crate::paint::{bytes, on_screen, Ask};
 use crate::paint_calls::PaintCall;
-use crate::plain::{Doc, Edited, Editor, NEWLINE};
+use crate::plain::{Doc, Edited, Editor, NEWLINE, QUARTER};
 use crate::walk::Walk;
 use crate::window::{policy, virtual_text, window, Offsets};
 
@@ -289,7 +291,7 @@ fn smaller_bytes(call: &Call) -> Vec<Call> {
         with(&|call| *numbers(&mut call.kind)[18] = NO_MARK);
         for (quarter, lengths) in [[2, 3], [6, 7], [10, 10], [8, 9]].into_iter().enumerate() {
             with(&|call| {
-                call.stores.side.chunks_mut(256).skip(quarter).take(1).for_each(|area| area.fill(0));
+                call.stores.side.chunks_mut(QUARTER).skip(quarter).take(1).for_each(|area| area.fill(0));
                 zero(call, lengths);
             });
         }
@@ -357,6 +359,101 @@ fn smaller_paintings(call: &PaintCall) -> Vec<PaintCall> {
         let mut smaller = call.clone();
         smaller.screen[at] = 32;
         all.push(smaller);
+    }
+    all
+}
+
+/// A conversion with fewer keys, smaller numbers and fewer bytes.
+pub fn conversion(mut call: ConvertCall, differs: impl FnMut(&ConvertCall) -> bool) -> ConvertCall {
+    let mut differs = limited(differs);
+    call.keys = leave_out(call.keys.clone(), |keys| differs(&ConvertCall { keys: keys.to_vec(), ..call.clone() }));
+    loop {
+        let least = old_weight(&call);
+        let mut candidates = smaller_conversions(&call).into_iter();
+        match candidates.find(|candidate| old_weight(candidate) < least && differs(candidate)) {
+            Some(smaller) => call = smaller,
+            None => return call,
+        }
+    }
+}
+
+fn old_weight(call: &ConvertCall) -> u128 {
+    let set = |store: &[u8]| store.iter().filter(|byte| **byte != 0).count() * 4 + store.len();
+    let Stores { text, recall, held, side, .. } = &call.old;
+    let bytes = [text, recall, held, side, &call.side].map(|store| set(store)).iter().sum::<usize>();
+    let mut record = Record { mark: call.record.mark.wrapping_add(1), ..call.record };
+    bytes as u128 + record.fields().iter().map(|number| **number as u128).sum::<u128>()
+}
+
+/// Where the old stores are a session: smaller states. And anything: smaller numbers, fewer bytes.
+fn smaller_conversions(call: &ConvertCall) -> Vec<ConvertCall> {
+    let ConvertCall { record: given, old, .. } = call;
+    let (h, w, t) = (given.rows, given.columns, old.text.len());
+    let mut all = Vec::new();
+    let mut zeros = call.clone();
+    zeros.side.fill(0);
+    all.push(zeros);
+    let sound = sizes_fit_unseen(old, h, w, OLD_SIDE).then(|| session_by(given, old, OLD_QUARTER)).flatten();
+    if let Some(editor) = sound {
+        let mut make = |editor: &Editor| {
+            let at = policy(&virtual_text(editor), Offsets::default(), h, w);
+            for t in less(t, used(editor)).chain([t]) {
+                let (text, recall, held, side) = encode_by(editor, t, OLD_QUARTER);
+                let old = Stores { text, recall, held, side, screen: Vec::new() };
+                all.push(ConvertCall { record: record(editor, at, h, w), old, ..call.clone() });
+            }
+        };
+        let texts = parts(&editor);
+        for (i, text) in texts.iter().enumerate() {
+            for length in less(text.len(), 0) {
+                let mut texts = texts.clone();
+                texts[i].truncate(length);
+                assembled(&editor, texts).iter().for_each(&mut make);
+            }
+        }
+        make(&editor);
+    }
+    // Texts emptied with their lengths: those of the three stores, where the cursor is at the beginning then, and those of the quarters.
+    let mut with = |change: &dyn Fn(&mut ConvertCall)| {
+        let mut smaller = call.clone();
+        change(&mut smaller);
+        all.push(smaller);
+    };
+    with(&|ConvertCall { record, old, .. }| {
+        old.text.fill(0);
+        *record = Record { l: 0, r: 0, top: 0, left: 0, mark: NO_MARK, ..*record };
+    });
+    with(&|ConvertCall { record, old, .. }| (old.recall.fill(0), (record.rl, record.rr) = (0, 0)).1);
+    with(&|ConvertCall { record, old, .. }| (old.held.fill(0), (record.held_left, record.held_right) = (0, 0)).1);
+    for (quarter, lengths) in [[2, 3], [6, 7], [10, 10], [8, 9]].into_iter().enumerate() {
+        with(&|ConvertCall { record, old, .. }| {
+            old.side.chunks_mut(OLD_QUARTER).skip(quarter).take(1).for_each(|area| area.fill(0));
+            lengths.iter().for_each(|i| *record.fields()[*i] = 0);
+        });
+    }
+    for t in less(t, 0) {
+        with(&|ConvertCall { old, .. }| {
+            old.text.drain(t / 2..t / 2 + old.text.len() - t);
+            old.recall.truncate(t);
+            old.held.truncate(t);
+        });
+    }
+    let values = { *given }.fields().map(|value| *value);
+    for (i, value) in values.into_iter().enumerate() {
+        for smaller in less(value, 0).chain((i == 18).then_some(NO_MARK)) {
+            let mut with = call.clone();
+            *with.record.fields()[i] = smaller;
+            all.push(with);
+        }
+    }
+    for store in 0..4 {
+        let stores = |call: &ConvertCall| [&call.old.text, &call.old.recall, &call.old.held, &call.old.side][store].clone();
+        for at in stores(call).iter().enumerate().filter(|(_, byte)| **byte != 0).map(|(at, _)| at).take(16) {
+            let mut with = call.clone();
+            let Stores { text, recall, held, side, .. } = &mut with.old;
+            [text, recall, held, side][store][at] = 0;
+            all.push(with);
+        }
     }
     all
 }

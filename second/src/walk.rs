@@ -286,14 +286,27 @@ impl Writer {
     fn quotation(&mut self) {
         self.begin_quotation();
         if self.random.percent(6) {
-            let n = self.room() + 1;
-            let text = text(&mut self.random, self.letters, n);
-            self.type_text(&text);
+            self.fill_quotation();
         }
         self.type_some();
         self.delete_and_recall();
         if self.random.percent(50) {
             self.press(Key::Quote);
+        }
+    }
+
+    /// A quotation that is full, in few keys: what was typed is deleted and comes back twice, again and again.
+    fn fill_quotation(&mut self) {
+        self.press(Key::Function(Action::Delete, Direction::Right, Place::Document));
+        self.press(Key::Function(Action::Delete, Direction::Left, Place::Document));
+        let mut length = 8;
+        let text = text(&mut self.random, self.letters, length);
+        self.type_text(&text);
+        while 2 * length <= QUARTER {
+            self.press(Key::Function(Action::Delete, Direction::Left, Place::Document));
+            self.press(Key::Recall);
+            self.press(Key::Recall);
+            length *= 2;
         }
     }
 

@@ -92,10 +92,10 @@ fn full_for_the_whole_insertion() {
         let text = if tab == 0 { "  a     |bc" } else { "  a|bc" };
         assert_eq!((bench.press(Tab).0, bench.text().as_str()), (tab, text), "{t}");
     }
-    // A quotation has room for 256 bytes: 31 TABs fill 248, then 7 bytes leave 1.
+    // A quotation has room for 1,024 bytes: 127 TABs fill 1,016, then 7 bytes leave 1.
     let mut bench = Bench::open("|", 16, 16, 16);
     bench.press(Quote);
-    for _ in 0..31 {
+    for _ in 0..127 {
         assert_eq!(bench.press(Tab), (0, 8, 0));
     }
     bench.type_text("abcdefg");

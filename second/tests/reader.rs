@@ -198,7 +198,7 @@ fn keys_that_leave_the_document_alone() {
     assert_eq!(bench.press(Function(Move, Left, Document)), (0, 1_024, 0));
     assert_eq!(bench.press(Mark), (0, 0, 0));
     assert_eq!(bench.press(Quote), (0, 0, 0));
-    bench.type_text(&run_of("q", 256));
+    bench.type_text(&run_of("q", 1_024));
     assert_eq!(bench.press(Quote), (0, 0, 0));
     assert_eq!(bench.press(Function(Delete, Right, Character)), (0, 1, 0));
     assert_eq!(bench.press(Recall), (0, 0, 0));

@@ -26,3 +26,4 @@ pub mod FindReplace
 pub mod ReplaceRoom
 pub mod ReplaceLines
 pub mod Opening
+pub mod Conversion

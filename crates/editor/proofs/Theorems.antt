@@ -10,3 +10,4 @@ pub mod Marks
 pub mod Cuts
 pub mod Indents
 pub mod Pins
+pub mod Conversion

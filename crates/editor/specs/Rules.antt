@@ -8,3 +8,4 @@ pub mod LongLines
 pub mod Indents
 pub mod Keys
 pub mod Bytes
+pub mod Conversion

@@ -7,3 +7,4 @@ pub mod CutPins
 pub mod IndentPins
 pub mod LinePins
 pub mod SessionPins
+pub mod ConversionPins

@@ -4,3 +4,4 @@ pub mod Marks
 pub mod Searches
 pub mod Neighbours
 pub mod Recalling
+pub mod Conversion

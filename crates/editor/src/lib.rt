@@ -1,4 +1,5 @@
 // The editor layer: keys on a document, a quotation and their recall texts, without a screen.
+pub mod conversion;
 pub mod finds;
 pub mod indents;
 pub mod keys;
@@ -81,7 +82,7 @@ pub enum Edit {
 }
 
 // The length of a quarter of the side store.
-pub const QUARTER: usize = 256;
+pub const QUARTER: usize = 1024;
 
 // The longest line of a document that the reader takes.
 pub const LONGEST_LINE: usize = 1024;

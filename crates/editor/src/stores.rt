@@ -1,9 +1,9 @@
-// The four stores: their sizes, the session test without the window's part, and a text newly opened.
+// The four stores: their sizes, the session test without the window's part, and a text newly opened. The tests take the length of a quarter,
+// since a conversion has them look at an old session.
 use crate::LONGEST_LINE;
 use crate::Lengths;
 use crate::Marking;
 use crate::Mode;
-use crate::QUARTER;
 use crate::Sizes;
 use crate::records::holding_sizes;
 use crate::records::opening_lengths;
@@ -14,19 +14,19 @@ use gap::sound::sound_pair;
 use gap::texts::open_text;
 ghost use mathlib.Core.Path.{_≡_};
 ghost use mathlib.Core.Bool.{true};
-ghost use Prim.Native.Nat.{_+_, _≤_};
+ghost use Prim.Native.Nat.{_+_, _*_, _^_, _≤_, _<_};
 ghost use lib.ListN.{length};
 ghost use Rattle.editor.specs.Rules.Marks.{markWithin};
 ghost use Rattle.editor.specs.Rules.Bytes.{quarter, sized, oneHalf, unquoted, editorOk};
 ghost use Rattle.editor.specs.Wording.Promise.{stores, Opens};
 
 // The stores have the lengths that the table asks for.
-pub fn sized_stores(text: &[u8], recall: &[u8], held: &[u8], side: &[u8]) -> bool
-    ensures { λ ok. ⌜ ok ≡ sized quarter (stores (now (text .entry)) (now (recall .entry)) (now (held .entry)) (now (side .entry))) ⌝ }
+pub fn sized_stores(q: usize, text: &[u8], recall: &[u8], held: &[u8], side: &[u8]) -> bool
+    requires { ⌜ 4 * q < 2 ^ 64 ⌝ }
+    ensures { λ ok. ⌜ ok ≡ sized q (stores (now (text .entry)) (now (recall .entry)) (now (held .entry)) (now (side .entry))) ⌝ }
 {
     let t = text.len();
-    ((1 <= t) & (t <= 65536))
-        & (((recall.len() == t) & (held.len() == t)) & (side.len() == 4 * QUARTER))
+    ((1 <= t) & (t <= 65536)) & (((recall.len() == t) & (held.len() == t)) & (side.len() == 4 * q))
 }
 
 // A recall text lies on one side only.
@@ -60,9 +60,9 @@ fn mark_within(l: usize, r: usize, mark: Marking) -> bool
 }
 
 // Record and stores are a session's, but for the cursor on the screen. Every byte is read, and nothing is left early.
-pub fn editor_ok(n: Lengths, text: &[u8], recall: &[u8], held: &[u8], side: &[u8]) -> bool
-    requires { ⌜ sized quarter (stores (now text) (now recall) (now held) (now side)) ≡ true ⌝ }
-    ensures { λ ok. ⌜ ok ≡ editorOk quarter n (stores (now (text .entry)) (now (recall .entry)) (now (held .entry)) (now (side .entry))) ⌝ }
+pub fn editor_ok(q: usize, n: Lengths, text: &[u8], recall: &[u8], held: &[u8], side: &[u8]) -> bool
+    requires { ⌜ sized q (stores (now text) (now recall) (now held) (now side)) ≡ true ⌝ }
+    ensures { λ ok. ⌜ ok ≡ editorOk q n (stores (now (text .entry)) (now (recall .entry)) (now (held .entry)) (now (side .entry))) ⌝ }
 {
     let main = n.main;
     let quoted = n.quoted;
@@ -70,10 +70,10 @@ pub fn editor_ok(n: Lengths, text: &[u8], recall: &[u8], held: &[u8], side: &[u8
     let mark = n.mark;
     let document = sound_document(LONGEST_LINE, text, main.l, main.r)
         & sound_pair(recall, main.rl, main.rr);
-    let quotation = sound_gap(&side[..QUARTER], quoted.l, quoted.r)
-        & sound_pair(&side[QUARTER..2 * QUARTER], quoted.rl, quoted.rr);
-    let others = sound_pair(&side[2 * QUARTER..3 * QUARTER], n.pl, 0)
-        & sound_pair(&side[3 * QUARTER..4 * QUARTER], n.xl, n.xr);
+    let quotation = sound_gap(&side[..q], quoted.l, quoted.r)
+        & sound_pair(&side[q..2 * q], quoted.rl, quoted.rr);
+    let others = sound_pair(&side[2 * q..3 * q], n.pl, 0)
+        & sound_pair(&side[3 * q..4 * q], n.xl, n.xr);
     let kept = sound_pair(held, n.hl, n.hr) & mark_within(main.l, main.r, mark);
     let shape = (one_half(main) & one_half(quoted))
         & (one_half(holding_sizes(n)) & no_quotation(mode, quoted));

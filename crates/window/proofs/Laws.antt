@@ -24,3 +24,4 @@ pub mod Machine
 pub mod SentRows
 pub mod SentScreen
 pub mod SentViews
+pub mod Conversion

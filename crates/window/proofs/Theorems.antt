@@ -22,3 +22,4 @@ pub mod HostTerminal
 pub mod ShutOut
 pub mod RecallCalls
 pub mod CutCalls
+pub mod Conversion

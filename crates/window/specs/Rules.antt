@@ -2,6 +2,7 @@
 pub mod Window
 pub mod Rows
 pub mod Core
+pub mod Conversion
 pub mod Refusals
 pub mod Terminal
 pub mod Sequences
@@ -9,3 +10,4 @@ pub mod Sending
 pub mod Machine
 pub mod Host
 pub mod HostRun
+pub mod HostConversion

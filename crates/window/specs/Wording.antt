@@ -4,3 +4,4 @@ pub mod Calls
 pub mod Promise
 pub mod Demands
 pub mod Writing
+pub mod Conversion

@@ -13,6 +13,7 @@ use crate::painter::refresh;
 use editor::EditorReply;
 use editor::Key;
 use editor::LONGEST_LINE;
+use editor::QUARTER;
 use editor::keys::press_session;
 use editor::records::QUIET;
 use editor::records::opening_lengths;
@@ -61,17 +62,24 @@ pub fn tabled_stores(
     if !rows_and_columns(h, w) {
         return false;
     }
-    sized_stores(text, recall, held, side) & (screen.len() == h * w)
+    sized_stores(QUARTER, text, recall, held, side) & (screen.len() == h * w)
 }
 
-// Whether record and stores are a session. The newlines counted on the way are handed on.
-pub fn session_test(s: Session, text: &[u8], recall: &[u8], held: &[u8], side: &[u8]) -> SessionTest
-    requires { ⌜ sized quarter (stores (now text) (now recall) (now held) (now side)) ≡ true ⌝ }
-    ensures { λ t. ⌜ t ≡ sessionTest s (stores (now (text .entry)) (now (recall .entry)) (now (held .entry)) (now (side .entry))) ⌝ }
+// Whether record and stores are a session in quarters of q bytes. The newlines counted on the way are handed on.
+pub fn session_test(
+    q: usize,
+    s: Session,
+    text: &[u8],
+    recall: &[u8],
+    held: &[u8],
+    side: &[u8],
+) -> SessionTest
+    requires { ⌜ (q ≤ quarter) × (sized q (stores (now text) (now recall) (now held) (now side)) ≡ true) ⌝ }
+    ensures { λ t. ⌜ t ≡ sessionTest q s (stores (now (text .entry)) (now (recall .entry)) (now (held .entry)) (now (side .entry))) ⌝ }
 {
     let lengths = s.lengths;
     let frame = s.frame;
-    if !editor_ok(lengths, text, recall, held, side) {
+    if !editor_ok(q, lengths, text, recall, held, side) {
         return SessionTest::Failed;
     }
     let above = newlines_left(lengths, text);
@@ -84,7 +92,7 @@ pub fn session_test(s: Session, text: &[u8], recall: &[u8], held: &[u8], side: &
 // ---- Answers
 
 // A refusal.
-fn refusal(code: usize, place: usize) -> Answer
+pub fn refusal(code: usize, place: usize) -> Answer
     ensures { λ a. ⌜ a ≡ refusal code place ⌝ }
 {
     Answer {
@@ -256,7 +264,7 @@ pub fn press(
     if !tabled_stores(h, w, text, recall, held, side, screen) {
         return turned_down(SIZE, s);
     }
-    let SessionTest::Passed(above) = session_test(s, text, recall, held, side) else {
+    let SessionTest::Passed(above) = session_test(QUARTER, s, text, recall, held, side) else {
         return turned_down(SESSION, s);
     };
     let done = press_session(lengths, k, text, recall, held, side);

@@ -15,7 +15,7 @@ ghost use Prim.Native.Nat.{_≤_};
 ghost use lib.ListN.{length};
 ghost use Rattle.editor.specs.Wording.Marks.{cuts};
 ghost use Rattle.window.specs.Rules.Window.{policyRow, policyColumn};
-ghost use Rattle.window.specs.Wording.Calls.{newlinesLeft, LeftCounted, spotIn, visibleAt, policyAt, Texts, virtualHeld};
+ghost use Rattle.window.specs.Wording.Calls.{newlinesLeft, LeftCounted, visibleAt, policyAt, HasTexts, IsSpot};
 
 // The newlines left of the document's cursor.
 pub fn newlines_left(n: Lengths, text: &[u8]) -> usize
@@ -82,9 +82,9 @@ pub fn newlines_now(k: Key, above: usize, was: Sizes, done: EditorReply, text: &
 
 // Row from 1 and column from 0, over the texts left of the cursor only.
 pub fn cursor(above: usize, n: Lengths, text: &[u8], side: &[u8]) -> Spot
-    requires { ⌜ Texts n (now text) (now side) ⌝ }
+    requires { ⌜ HasTexts n (now text) (now side) ⌝ }
     requires { ⌜ above ≡ newlinesLeft (n .main .l) (now text) ⌝ }
-    ensures { λ s. ⌜ s ≡ spotIn (virtualHeld n (now (text .entry)) (now (side .entry))) ⌝ }
+    ensures { λ s. ⌜ IsSpot s n (now (text .entry)) (now (side .entry)) ⌝ }
 {
     let main = n.main;
     let quoted = n.quoted;

@@ -95,7 +95,7 @@ fn mark_from(m: usize) -> Marking
     Marking::At(m)
 }
 
-fn session_from(n: Record) -> Session
+pub fn session_from(n: Record) -> Session
     ensures { λ s. ⌜ s ≡ sessionFrom n ⌝ }
 {
     Session {
@@ -182,7 +182,7 @@ fn record_from(s: Session) -> Record
 }
 
 // The reply in numbers.
-fn in_numbers(r: Reply) -> HostReply
+pub fn in_numbers(r: Reply) -> HostReply
     ensures { λ q. ⌜ q ≡ numbersOf r ⌝ }
 {
     let answer = r.answer;
@@ -205,7 +205,7 @@ fn in_numbers(r: Reply) -> HostReply
 }
 
 // A refusal that hands the record back number for number.
-fn refusal_of(code: usize, n: Record) -> HostReply
+pub fn refusal_of(code: usize, n: Record) -> HostReply
     ensures { λ q. ⌜ q ≡ record { said = saidOf (refusal code 0); back = n } ⌝ }
 {
     HostReply {

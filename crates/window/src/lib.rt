@@ -1,8 +1,10 @@
-// The window layer: the screen, the core's two calls, and the bytes for a terminal.
+// The window layer: the screen, the core's calls, and the bytes for a terminal.
 pub mod calls;
 pub mod cells;
+pub mod conversion;
 pub mod cursor;
 pub mod host;
+pub mod host_conversion;
 pub mod host_keys;
 pub mod painter;
 pub mod sender;

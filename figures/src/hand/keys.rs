@@ -5,7 +5,7 @@ use super::places::{distance_left, distance_right, find_left, find_right, Direct
 use super::texts::Side;
 use crate::chidukwore::{self, Record, NO_MARK};
 
-pub const QUARTER: usize = 256;
+pub const QUARTER: usize = 1024;
 
 /// The longest line of a document that its reader takes.
 pub const LONGEST_LINE: usize = 1_024;

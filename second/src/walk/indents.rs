@@ -33,10 +33,12 @@ impl Writer {
     /// 0 to 9 bytes are made free or left free, and both keys want some of them.
     pub(super) fn indent_in_little_room(&mut self) {
         let free = self.random.within(0, 9);
-        let room = self.room();
         // A quotation is filled for it now and then; a large store never.
-        let most = if self.editor.mode == Mode::Quoted && self.random.percent(20) { 256 } else { 40 };
-        if room > free + most {
+        if self.editor.mode == Mode::Quoted && self.random.percent(20) {
+            self.fill_quotation();
+        }
+        let room = self.room();
+        if room > free + 40 {
             return self.indent();
         }
         for _ in room..free {

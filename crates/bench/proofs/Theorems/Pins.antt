@@ -125,7 +125,7 @@ long-printed input long = broken-printed input 0 (input-limit input .1 long)
 
 -- The stores that are lent, all zeros, as the header asks; no screen where rows or columns are not as tabled. (DECISIONS A17.)
 pub stores-lent : (h : Header)
-    → (fresh h .stores ≡ record { text = zeros (h .store); recall = zeros (h .store); held = zeros (h .store); side = zeros 1024 })
+    → (fresh h .stores ≡ record { text = zeros (h .store); recall = zeros (h .store); held = zeros (h .store); side = zeros 4096 })
     × (rowsAndColumns (h .rows) (h .columns) ≡ true → fresh h .screen ≡ zeros (h .rows * h .columns))
     × (rowsAndColumns (h .rows) (h .columns) ≡ false → fresh h .screen ≡ [])
 unfolding quarter zeros fresh

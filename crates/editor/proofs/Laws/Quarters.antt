@@ -1,9 +1,10 @@
 -- Laws of stores that are quarters joined: a quarter by its index, a store put together again from its quarters, and the quarters
 -- of an encoded side store.
-use mathlib.Core.Path.{_≡_, ap, ap₂, _∙_, fun-ext}
+use mathlib.Core.Path.{_≡_, refl, sym, ap, ap₂, _∙_, fun-ext}
 use mathlib.Core.List.{List, _++_}
-use Prim.Native.Nat.{ℕ, zero, suc, _+_, _*_, _≤_}
-use native.Mathlib.Nat.{suc-mul, zero-mul, mul-le-mul-right, not-suc-le-zero, le-of-suc-le-suc}
+use Prim.Native.Nat.{ℕ, zero, suc, _+_, _-_, _*_, _≤_}
+use native.Mathlib.Nat.{suc-mul, zero-mul, one-mul, mul-le-mul-right, not-suc-le-zero, le-of-suc-le-suc}
+use native.Mathlib.Numerals.{add-one}
 use native.Mathlib.Omega.{arith}
 use lib.ListN.{length, take, drop, length-append, length-drop, take-append-drop}
 use lib.Seq.{length-take-le, take-at, take-all, drop-append-add}
@@ -67,6 +68,34 @@ module _ (Q : ℕ) where
       let one : length (take Q s) ≡ Q = length-take-le Q s (omega arith) in
       let others : length (drop Q s) ≡ suc n * Q = rw length-drop (omega arith) in
       simp take-append-drop at (more n (take Q s) (drop Q s) one (joined-quarters n (drop Q s) others))
+
+-- A quarter as code lends it: from its own place to that of the next.
+pub lent-first : (Q : ℕ) (s : List ℕ) → take Q s ≡ quarterOf Q 0 s
+unfolding part
+lent-first Q s = rw zero-mul
+
+lent-quarter : (Q i j : ℕ) (s : List ℕ) → j ≡ suc i * Q → take (j - i * Q) (drop (i * Q) s) ≡ quarterOf Q i s
+unfolding part
+lent-quarter Q i j s e =
+    let size : j - i * Q ≡ Q = omega (arith, suc-mul i Q) in
+    ap (λ k. take k (drop (i * Q) s)) size
+
+pub lent-before : (Q i : ℕ) (s : List ℕ) → let end = (i + 1) * Q in take (end - (end - Q)) (drop (end - Q) s) ≡ quarterOf Q i s
+lent-before Q i s =
+    let end : (i + 1) * Q ≡ suc i * Q = ap (λ n. n * Q) (add-one i) in
+    let place : (i + 1) * Q - Q ≡ i * Q = omega (arith, end, suc-mul i Q) in
+    (λ k. take ((i + 1) * Q - place k) (drop (place k) s)) ∙ lent-quarter Q i ((i + 1) * Q) s end
+
+pub lent-second : (Q : ℕ) (s : List ℕ) → take (2 * Q - Q) (drop Q s) ≡ quarterOf Q 1 s
+lent-second Q s =
+    let one : Q ≡ 1 * Q = sym (one-mul Q) in
+    (λ i. take (2 * Q - one i) (drop (one i) s)) ∙ lent-quarter Q 1 (2 * Q) s refl
+
+pub lent-third : (Q : ℕ) (s : List ℕ) → take (3 * Q - 2 * Q) (drop (2 * Q) s) ≡ quarterOf Q 2 s
+lent-third Q s = lent-quarter Q 2 (3 * Q) s refl
+
+pub lent-fourth : (Q : ℕ) (s : List ℕ) → take (4 * Q - 3 * Q) (drop (3 * Q) s) ≡ quarterOf Q 3 s
+lent-fourth Q s = lent-quarter Q 3 (4 * Q) s refl
 
 -- The quarters of an encoded side store: quotation, its recall text, pattern and, from 3 on, replacement.
 abbrev pub quartersOf : ℕ → Plain → ℕ → List ℕ

@@ -18,9 +18,9 @@ pub record Stores : Type 0 where
   pub held : List ℕ
   pub side : List ℕ
 
--- 01, stores: the length of a quarter.
+-- 01, stores: the length of a quarter. (02, M-109: 1,024.)
 unfoldable pub quarter : ℕ
-quarter = 256
+quarter = 1024
 
 -- The lengths that the four stores must have. (01, table of stores. 02, M-101: a fifth store of length T, the screen being the other.)
 unfoldable pub sized : ℕ → Stores → Bool

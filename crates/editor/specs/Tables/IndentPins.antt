@@ -73,10 +73,6 @@ newlinePins =
 
 -- ---- TAB
 
--- So many times in a row.
-abbrev pub repeated : ℕ → Key → List Key
-repeated n k = times (_∷_ k) n []
-
 abbrev pub tabPins : List (Sentence KeyExample)
 tabPins =
     sentence "TAB inserts spaces up to the next column that is a multiple of eight, and reports the bytes inserted"
@@ -120,12 +116,6 @@ tabPins =
     ∷ example "abc|" (Quote ∷ Tab ∷ []) (Goes 8 ∷ Stands "abc|" ∷ Quotation "        |" ∷ [])
     ∷ example "abc|" (quoting "xyz" (deleteLeft Character) ++ (Tab ∷ [])) (Goes 6 ∷ Quotation "xy      |" ∷ ItsRecalls "z|" ∷ [])
     ∷ exampleIn 1 "a|" (quoting "\n" Tab) (Goes 8 ∷ Stands "a|" ∷ Quotation "\n        |" ∷ [])
-    ∷ [])
-    ∷ sentence "FULL in QUOTED: above 256 bytes"
-    (example "|" (Quote ∷ repeated 32 Tab) (Goes 8 ∷ [])
-    ∷ example "|" (Quote ∷ repeated 33 Tab) (Refused 6 ∷ [])
-    ∷ example "|" (Quote ∷ repeated 31 Tab ++ (Newline ∷ [])) (Refused 6 ∷ [])
-    ∷ example "|" (Quote ∷ repeated 31 Tab ++ (Insert 10 ∷ Newline ∷ [])) (Goes 1 ∷ [])
     ∷ [])
     ∷ []
 

@@ -88,7 +88,7 @@ layoutPins =
     ∷ areLengths (openingLengths 2) (lengths (sizes 0 2 0 0) (sizes 0 0 0 0) 0 0 0 Main 0 0 Unmarked)
     ∷ areStores (storesOf 4 2 (opening (bytes "ab"))) (stores "__ab" "____" "____" "________")
     ∷ [])
-    ∷ sentence "a quarter has 256 bytes" (eqb quarter 256 ∷ [])
+    ∷ sentence "a quarter has 1,024 bytes (M-109)" (eqb quarter 1024 ∷ [])
     ∷ sentence "SIZE: text 1 byte at least, recall and held as long as text, side four quarters"
     (sized 4 fullStores
     ∷ sized 4 (stores "_" "_" "_" "________________")

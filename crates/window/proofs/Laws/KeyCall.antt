@@ -31,10 +31,10 @@ use Rattle.window.specs.declared.Spot.{Spot}
 use Rattle.window.specs.declared.Rows.{Rows}
 use Rattle.window.specs.declared.Reply.{Reply}
 use Rattle.window.specs.Rules.Window.{virtual, virtualIn, rowOf, columnOf, window, visible, policy}
-use Rattle.window.specs.Rules.Core.{Lent, Called, T, rowsAndColumns, tabled, isSession, shown, finished, keyed, held, lentOf}
+use Rattle.window.specs.Rules.Core.{Lent, Called, T, rowsAndColumns, tabled, sessionIn, isSession, shown, finished, keyed, held, lentOf}
 use Rattle.window.specs.Rules.Rows.{firstRow, lastRow}
 use Rattle.window.specs.Wording.Painter.{Canvas}
-use Rattle.window.specs.Wording.Calls.{newlinesLeft, LeftCounted, sessionTest, spotIn, visibleAt, policyAt, Texts, virtualHeld}
+use Rattle.window.specs.Wording.Calls.{newlinesLeft, LeftCounted, sessionTest, spotIn, visibleAt, policyAt, TextsIn, Texts, virtualHeldIn, virtualHeld}
 use Rattle.window.specs.Wording.Calls.{Refreshed, lent, called, turnedDownReply, reported}
 use Rattle.window.proofs.Laws.Window.{policy-visible, Visible, visible-says}
 use Rattle.window.proofs.Laws.Views.{tabled-facts, session-view, session-keyed}
@@ -60,22 +60,22 @@ unfolding tabled
 tabled-so h w b sizes e rows = ap₂ (λ t u. t && (u && eqb (length (b .screen)) (h * w))) e (sym rows)
 
 -- The session test, by the editor's and the cursor's.
-pub no-session : (s : Session) (b : Stores) → editorOk quarter (s .lengths) b ≡ false → false ≡ isSession s b
-unfolding isSession
-no-session s b e = sym (ap (λ t. t && visible (s .frame) (virtual (held s b))) e)
+pub no-session : (Q : ℕ) (s : Session) (b : Stores) → editorOk Q (s .lengths) b ≡ false → false ≡ sessionIn Q s b
+no-session Q s b e = sym (ap (λ t. t && visible (s .frame) (virtual (plainOf Q (s .lengths) b))) e)
 
-pub session-so : (s : Session) (b : Stores) → editorOk quarter (s .lengths) b ≡ true
-    → (spot : Spot) → spot ≡ spotIn (virtualHeld (s .lengths) (b .text) (b .side)) → (seen : Bool) → seen ≡ visibleAt (s .frame) spot → seen ≡ isSession s b
-unfolding isSession visible plainOf
-session-so s b ok spot here seen e =
-    e ∙ (ap (visibleAt (s .frame)) here ∙ sym (ap (λ t. t && visible (s .frame) (virtual (held s b))) ok))
+pub session-so : (Q : ℕ) (s : Session) (b : Stores) → editorOk Q (s .lengths) b ≡ true
+    → (spot : Spot) → spot ≡ spotIn (virtualHeldIn Q (s .lengths) (b .text) (b .side)) → (seen : Bool) → seen ≡ visibleAt (s .frame) spot
+    → seen ≡ sessionIn Q s b
+unfolding visible plainOf
+session-so Q s b ok spot here seen e =
+    e ∙ (ap (visibleAt (s .frame)) here ∙ sym (ap (λ t. t && visible (s .frame) (virtual (plainOf Q (s .lengths) b))) ok))
 
 -- What the session test finds, by these tests; and what it tells.
-module _ (s : Session) (b : Stores) where
-  pub test-failed : isSession s b ≡ false → Failed ≡ sessionTest s b
+module _ (Q : ℕ) (s : Session) (b : Stores) where
+  pub test-failed : sessionIn Q s b ≡ false → Failed ≡ sessionTest Q s b
   test-failed e = sym (cond-false _ _ e)
 
-  pub test-passed : isSession s b ≡ true → {above : ℕ} → above ≡ newlinesLeft (s .lengths .main .l) (b .text) → Passed above ≡ sessionTest s b
+  pub test-passed : sessionIn Q s b ≡ true → {above : ℕ} → above ≡ newlinesLeft (s .lengths .main .l) (b .text) → Passed above ≡ sessionTest Q s b
   test-passed e counted = ap Passed counted ∙ sym (cond-true _ _ e)
 
 passed-so : (test : Bool) {x y : ℕ} → cond test (Passed x) Failed ≡ Passed y → (test ≡ true) × (x ≡ y)
@@ -86,12 +86,21 @@ failed-so : (test : Bool) (x : ℕ) → cond test (Passed x) Failed ≡ Failed �
 failed-so true x e = cc
 failed-so false x e = refl
 
-module _ (s : Session) (b : Stores) {t : SessionTest} (e : t ≡ sessionTest s b) where
+module _ (Q : ℕ) (s : Session) (b : Stores) {t : SessionTest} (e : t ≡ sessionTest Q s b) where
+  pub tested-so : {above : ℕ} → t ≡ Passed above → (sessionIn Q s b ≡ true) × (newlinesLeft (s .lengths .main .l) (b .text) ≡ above)
+  tested-so told = passed-so (sessionIn Q s b) (sym e ∙ told)
+
+  pub tested-not : t ≡ Failed → sessionIn Q s b ≡ false
+  tested-not told = failed-so (sessionIn Q s b) _ (sym e ∙ told)
+
+module _ (s : Session) (b : Stores) {t : SessionTest} (e : t ≡ sessionTest quarter s b) where
   pub tested-session : {above : ℕ} → t ≡ Passed above → (isSession s b ≡ true) × (newlinesLeft (s .lengths .main .l) (b .text) ≡ above)
-  tested-session told = passed-so (isSession s b) (sym e ∙ told)
+  unfolding isSession
+  tested-session told = tested-so quarter s b e told
 
   pub tested-none : t ≡ Failed → isSession s b ≡ false
-  tested-none told = failed-so (isSession s b) _ (sym e ∙ told)
+  unfolding isSession
+  tested-none told = tested-not quarter s b e told
 
 -- H times W is small.
 pub product-small : (h w : ℕ) → rowsAndColumns h w ≡ true → h * w ≤ 16384
@@ -103,11 +112,14 @@ product-small h w e =
 
 -- ---- Texts, canvas and offsets
 
-module _ (n : Lengths) (t c h s : List ℕ) (sound : Sound quarter n (stores t c h s)) where
-  pub texts-held : Texts n t s
-  texts-held =
-      let fits = fitting quarter n (stores t c h s) sound in
+module _ (Q : ℕ) (n : Lengths) (t c h s : List ℕ) (sound : Sound Q n (stores t c h s)) where
+  pub texts-in : TextsIn Q n t s
+  texts-in =
+      let fits = fitting Q n (stores t c h s) sound in
       record { document = fits .document; long = fits .high; quotation = fits .quotation; quarters = fits .side }
+
+pub texts-held : (n : Lengths) (t c h s : List ℕ) → Sound quarter n (stores t c h s) → Texts n t s
+texts-held = texts-in quarter
 
 left-short : (m : Mode) (d q : Doc) → length (virtualIn m d q .l) ≤ length (d .l) + (2 + length (q .l))
 unfolding virtualIn

@@ -21,7 +21,7 @@ use Rattle.editor.specs.Rules.Bytes.{quarter, quarterOf}
 use Rattle.window.specs.Words.{Lengths, Main, Quoted, Frame}
 use Rattle.window.specs.declared.Spot.{Spot}
 use Rattle.window.specs.Rules.Window.{virtualIn, visible, policy, policyRow, policyColumn}
-use Rattle.window.specs.Wording.Calls.{spotIn, visibleAt, policyAt, virtualHeld}
+use Rattle.window.specs.Wording.Calls.{spotIn, visibleAt, policyAt, virtualHeldIn}
 
 -- At a document's own spot, visibility and policy are those of the definitions.
 pub visible-spot : (f : Frame) (d : Doc) → visibleAt f (spotIn d) ≡ visible f d
@@ -95,17 +95,17 @@ unfolding part
 first-quarter size side = rw zero-mul
 
 -- The spot of the virtual text's cursor, counted in the stores.
-module _ (n : Lengths) (text side : List ℕ) where
+module _ (Q : ℕ) (n : Lengths) (text side : List ℕ) where
   pub main-spot : {above column : ℕ} → n .mode ≡ Main → above ≡ newlines (take (n .main .l) text)
       → column ≡ since (take (n .main .l) text)
-      → _≡_ {A = Spot} (record { row = above + 1; column = column }) (spotIn (virtualHeld n text side))
+      → _≡_ {A = Spot} (record { row = above + 1; column = column }) (spotIn (virtualHeldIn Q n text side))
   unfolding virtualIn ungap
   main-spot mode rows columns = rw (mode, rows, columns, add-one)
 
-  pub quoted-spot : {above within column : ℕ} → n .quoted .l ≤ quarter → n .mode ≡ Quoted
+  pub quoted-spot : {above within column : ℕ} → n .quoted .l ≤ Q → n .mode ≡ Quoted
       → above ≡ newlines (take (n .main .l) text) → within ≡ newlines (take (n .quoted .l) side)
       → column ≡ sinceAfter 1 (take (n .quoted .l) side)
-      → _≡_ {A = Spot} (record { row = above + within + 2; column = column }) (spotIn (virtualHeld n text side))
+      → _≡_ {A = Spot} (record { row = above + within + 2; column = column }) (spotIn (virtualHeldIn Q n text side))
   unfolding virtualIn ungap
   quoted-spot fits mode above within columns =
-      rw (mode, above, within, columns, first-quarter, take-take (n .quoted .l) quarter side fits, quoted-row, quoted-column)
+      rw (mode, above, within, columns, first-quarter, take-take (n .quoted .l) Q side fits, quoted-row, quoted-column)

@@ -34,7 +34,8 @@ use Rattle.window.specs.Rules.Sending.{sendable, sending}
 use Rattle.window.specs.Rules.Terminal.{repaint, struck, typed, viewed}
 use Rattle.window.specs.Rules.Machine.{step, feed, openedLine, struckLine, typedLine}
 use Rattle.window.specs.Tables.Table.{pressing, moving, outcome, holds, allHold}
-use Rattle.window.specs.Tables.WindowPins.{isRight, windowPins, onBytes}
+use Rattle.window.specs.Tables.WindowPins.{isRight, windowPins}
+use Rattle.window.specs.Tables.BytesPins.{editingBytes, onBytes}
 use Rattle.window.specs.Tables.CallPins.{sizePins, openingPins, callPins}
 use Rattle.window.specs.Tables.TerminalPins.{terminalPins}
 
@@ -67,30 +68,24 @@ unfolding every sameBytes begins part patch zeros counted move delete times pass
 terminals-pinned = refl
 
 pub keys-on-bytes : broken onBytes (placePins ++ (editPins ++ (quotationPins ++ (searchPins ++ replacePins)))) ≡ []
-unfolding every sameBytes begins part zeros counted move delete times passed splice nearest distance withLines passageTo newlines sinceAfter
-    lines gapped paired ungap unpair soundGap soundPair lineBeginning lineEnding word documentEnd isAt soundKey inserted removed carried
-    function recalled onSide quoted withPattern searched found withReplacement exchanged substituted replaced markedHere cutTo pasted acted
-    changeOf markThrough pressed fits bounded key quarter sized plainOf lengthsOf storesOf editorOk linesFit noneLonger longestLine
-    virtualIn rowCells joined window visible policy firstRow lastRow tabled isSession openedText opened longLine lineAt lineOf shown
-    finished keyed bytes markedAfter pressing unmarked markAfter states statesAll onBytes allOf broken
+unfolding every sameBytes begins part zeros move delete times passed splice nearest distance withLines passageTo newlines gapped paired ungap unpair
+    soundGap soundPair lineBeginning lineEnding word documentEnd isAt soundKey inserted removed carried function recalled onSide quoted
+    withPattern searched found withReplacement exchanged substituted replaced markedHere cutTo pasted acted changeOf markThrough pressed fits
+    bounded key sized plainOf lengthsOf storesOf editorOk linesFit noneLonger longestLine lines bytes markedAfter unmarked markAfter states statesAll editingBytes onBytes allOf broken
 keys-on-bytes = refl
 
 pub cuts-on-bytes : broken onBytes cutPins ≡ []
-unfolding every sameBytes begins part zeros counted move delete times passed splice nearest distance withLines passageTo newlines sinceAfter
-    lines gapped paired ungap unpair soundGap soundPair lineBeginning lineEnding word documentEnd isAt soundKey inserted removed carried
-    function recalled onSide quoted withPattern searched found withReplacement exchanged substituted replaced markedHere cutTo pasted acted
-    changeOf markThrough pressed fits bounded key quarter sized plainOf lengthsOf storesOf editorOk linesFit noneLonger longestLine
-    virtualIn rowCells joined window visible policy firstRow lastRow tabled isSession openedText opened longLine lineAt lineOf shown
-    finished keyed bytes markedAfter pressing unmarked markAfter states statesAll onBytes allOf broken
+unfolding every sameBytes begins part zeros move delete times passed splice nearest distance withLines passageTo newlines gapped paired ungap unpair
+    soundGap soundPair lineBeginning lineEnding word documentEnd isAt soundKey inserted removed carried function recalled onSide quoted
+    withPattern searched found withReplacement exchanged substituted replaced markedHere cutTo pasted acted changeOf markThrough pressed fits
+    bounded key sized plainOf lengthsOf storesOf editorOk linesFit noneLonger longestLine lines bytes markedAfter unmarked markAfter states statesAll editingBytes onBytes allOf broken
 cuts-on-bytes = refl
 
 pub pastes-on-bytes : broken onBytes pastePins ≡ []
-unfolding every sameBytes begins part zeros counted move delete times passed splice nearest distance withLines passageTo newlines sinceAfter
-    lines gapped paired ungap unpair soundGap soundPair lineBeginning lineEnding word documentEnd isAt soundKey inserted removed carried
-    function recalled onSide quoted withPattern searched found withReplacement exchanged substituted replaced markedHere cutTo pasted acted
-    changeOf markThrough pressed fits bounded key quarter sized plainOf lengthsOf storesOf editorOk linesFit noneLonger longestLine
-    virtualIn rowCells joined window visible policy firstRow lastRow tabled isSession openedText opened longLine lineAt lineOf shown
-    finished keyed bytes markedAfter pressing unmarked markAfter states statesAll onBytes allOf broken
+unfolding every sameBytes begins part zeros move delete times passed splice nearest distance withLines passageTo newlines gapped paired ungap unpair
+    soundGap soundPair lineBeginning lineEnding word documentEnd isAt soundKey inserted removed carried function recalled onSide quoted
+    withPattern searched found withReplacement exchanged substituted replaced markedHere cutTo pasted acted changeOf markThrough pressed fits
+    bounded key sized plainOf lengthsOf storesOf editorOk linesFit noneLonger longestLine lines bytes markedAfter unmarked markAfter states statesAll editingBytes onBytes allOf broken
 pastes-on-bytes = refl
 
 -- 01, what a refusal leaves: all five stores as they were; steps, bell, named rows and cursor 0; after opening a record of zeros in mode

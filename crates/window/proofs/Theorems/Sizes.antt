@@ -11,13 +11,13 @@ use Rattle.editor.specs.Rules.Bytes.{quarter, sized}
 use Rattle.editor.proofs.Laws.Session.{measured, measured-sized}
 use Rattle.window.specs.Rules.Core.{Lent, rowsAndColumns, tabled}
 
--- 01, table of stores. 02, M-101: the store of the held text.
+-- 01, table of stores. 02, M-101: the store of the held text; M-109: the side store of 4,096.
 pub record AsTabled (H W : ℕ) (b : Lent) : Type 0 where
   pub text-from : 1 ≤ length (b .stores .text)
   pub text-to : length (b .stores .text) ≤ 65536
   pub recall : length (b .stores .recall) ≡ length (b .stores .text)
   pub held : length (b .stores .held) ≡ length (b .stores .text)
-  pub side : length (b .stores .side) ≡ 1024
+  pub side : length (b .stores .side) ≡ 4096
   pub rows-from : 1 ≤ H
   pub rows-to : H ≤ 64
   pub columns-from : 1 ≤ W
@@ -28,8 +28,8 @@ pub tabled-exactly : (H W : ℕ) (b : Lent) → (tabled H W b ≡ true) ↔ AsTa
 unfolding tabled quarter
 tabled-exactly H W b = (
   λ e.
-      let stores = measured 256 (b .stores) (and-left (sized 256 (b .stores)) _ e) in
-      let others = and-right (sized 256 (b .stores)) _ e in
+      let stores = measured 1024 (b .stores) (and-left (sized 1024 (b .stores)) _ e) in
+      let others = and-right (sized 1024 (b .stores)) _ e in
       let frame = and-left (rowsAndColumns H W) _ others in
       let rows = and-left (leb 1 H && leb H 64) _ frame in
       let columns = and-right (leb 1 H && leb H 64) _ frame in
@@ -47,7 +47,7 @@ tabled-exactly H W b = (
       },
   λ t.
       and-both
-      (measured-sized 256 (b .stores) (record { low = t .text-from; high = t .text-to; recall = t .recall; held = t .held; side = t .side }))
+      (measured-sized 1024 (b .stores) (record { low = t .text-from; high = t .text-to; recall = t .recall; held = t .held; side = t .side }))
       (and-both
       (and-both
       (and-both (le-leb 1 H (t .rows-from)) (le-leb H 64 (t .rows-to)))

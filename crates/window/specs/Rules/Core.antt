@@ -44,9 +44,12 @@ tabled H W b = sized quarter (b .stores) && (rowsAndColumns H W && eqb (length (
 abbrev pub held : Session → Stores → Plain
 held s b = plainOf quarter (s .lengths) b
 
--- Record and stores are a session; what the screen shows does not matter. (01, session. DECISIONS B17.)
+-- Record and stores are a session in quarters of Q bytes; what the screen shows does not matter. (01, session. DECISIONS B17.)
+abbrev pub sessionIn : ℕ → Session → Stores → Bool
+sessionIn Q s b = editorOk Q (s .lengths) b && visible (s .frame) (virtual (plainOf Q (s .lengths) b))
+
 unfoldable pub isSession : Session → Stores → Bool
-isSession s b = editorOk quarter (s .lengths) b && visible (s .frame) (virtual (held s b))
+isSession s b = sessionIn quarter s b
 
 -- ---- Answers
 

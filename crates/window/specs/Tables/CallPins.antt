@@ -1,12 +1,13 @@
 -- What document 01 and request M-101 say of opening, refusals and sessions, on records and stores of any kind.
 use Prim.Native.String.{String}
 use lib.ListN.{replicate}
-use Rattle.window.specs.Words.{List, [], _∷_, _++_, Bool, false, _&&_, ℕ, _-_, eqb, length, Right, Move, Character}
+use Rattle.window.specs.Words.{List, [], _∷_, _++_, Bool, false, _&&_, ℕ, _-_, _*_, eqb, length, Right, Move, Character}
 use Rattle.window.specs.Words.{Key, Insert, Function, Recall, Quote, Mark, Cut, Paste, Main, Quoted, Marking, Unmarked, At, Lengths, Session}
 use Rattle.gap.specs.Rules.Sequence.{sameBytes, zeros}
 use Rattle.gap.specs.Rules.Strings.{bytes}
 use Rattle.gap.specs.Tables.Sentence.{Sentence, sentence}
 use Rattle.gap.specs.Tables.Written.{stored, isBytes, isStore, sameBool}
+use Rattle.editor.specs.Rules.Bytes.{quarter}
 use Rattle.editor.specs.Tables.SessionPins.{sizes, lengths, areLengths}
 use Rattle.window.specs.Rules.Core.{Lent, Called, opened, keyed}
 
@@ -31,27 +32,28 @@ both H W text recall held side screen code =
 
 abbrev pub sizePins : List (Sentence Bool)
 sizePins =
-    sentence "text 1 byte at least; recall and held the same; side 1,024; screen H times W"
-    (both 2 3 4 4 4 1024 6 0
-    ∷ both 2 3 1 1 1 1024 6 0
-    ∷ both 2 3 0 0 0 1024 6 1
-    ∷ both 2 3 4 3 4 1024 6 1
-    ∷ both 2 3 4 5 4 1024 6 1
-    ∷ both 2 3 4 4 3 1024 6 1
-    ∷ both 2 3 4 4 5 1024 6 1
-    ∷ both 2 3 4 4 0 1024 6 1
-    ∷ both 2 3 4 4 4 1023 6 1
-    ∷ both 2 3 4 4 4 1025 6 1
-    ∷ both 2 3 4 4 4 1024 5 1
-    ∷ both 2 3 4 4 4 1024 7 1
+    sentence "text 1 byte at least; recall and held the same; side 4,096, and no longer 1,024 (M-109); screen H times W"
+    (both 2 3 4 4 4 4096 6 0
+    ∷ both 2 3 1 1 1 4096 6 0
+    ∷ both 2 3 0 0 0 4096 6 1
+    ∷ both 2 3 4 3 4 4096 6 1
+    ∷ both 2 3 4 5 4 4096 6 1
+    ∷ both 2 3 4 4 3 4096 6 1
+    ∷ both 2 3 4 4 5 4096 6 1
+    ∷ both 2 3 4 4 0 4096 6 1
+    ∷ both 2 3 4 4 4 4095 6 1
+    ∷ both 2 3 4 4 4 4097 6 1
+    ∷ both 2 3 4 4 4 1024 6 1
+    ∷ both 2 3 4 4 4 4096 5 1
+    ∷ both 2 3 4 4 4 4096 7 1
     ∷ [])
     ∷ sentence "H is 1 to 64, W is 1 to 256"
-    (both 0 3 4 4 4 1024 0 1
-    ∷ both 64 1 4 4 4 1024 64 0
-    ∷ both 65 1 4 4 4 1024 65 1
-    ∷ both 3 0 4 4 4 1024 0 1
-    ∷ both 1 256 4 4 4 1024 256 0
-    ∷ both 1 257 4 4 4 1024 257 1
+    (both 0 3 4 4 4 4096 0 1
+    ∷ both 64 1 4 4 4 4096 64 0
+    ∷ both 65 1 4 4 4 4096 65 1
+    ∷ both 3 0 4 4 4 4096 0 1
+    ∷ both 1 256 4 4 4 4096 256 0
+    ∷ both 1 257 4 4 4 4096 257 1
     ∷ [])
     ∷ []
 
@@ -62,7 +64,7 @@ abbrev pub used : List ℕ → Lent
 used text =
     record {
       stores =
-          record { text = text; recall = replicate (length text) 120; held = replicate (length text) 120; side = replicate 1024 120 };
+          record { text = text; recall = replicate (length text) 120; held = replicate (length text) 120; side = replicate (4 * quarter) 120 };
       screen = replicate 6 120;
     }
 
@@ -88,7 +90,7 @@ openingPins =
     (isStore (openedUsed .lent .stores .text) "___ab\nc"
     ∷ isStore (openedUsed .lent .stores .recall) "_______"
     ∷ isStore (openedUsed .lent .stores .held) "_______"
-    ∷ sameBytes (openedUsed .lent .stores .side) (zeros 1024)
+    ∷ sameBytes (openedUsed .lent .stores .side) (zeros (4 * quarter))
     ∷ areLengths (openedUsed .session .lengths) (lengths (sizes 0 4 0 0) (sizes 0 0 0 0) 0 0 0 Main 0 0 Unmarked)
     ∷ [])
     ∷ sentence "it sets r = c = 0, paints the screen and names rows 1 to H"
@@ -113,7 +115,7 @@ abbrev pub linesIn : ℕ → ℕ → Session
 linesIn r c = recordIn r c 2 3 (lengths (sizes 4 3 0 0) (sizes 0 0 0 0) 0 0 0 Main 0 0 Unmarked)
 
 abbrev pub linesHolding : List ℕ → List ℕ → Lent
-linesHolding held screen = record { stores = record { text = linesText; recall = zeros 9; held = held; side = zeros 1024 }; screen = screen }
+linesHolding held screen = record { stores = record { text = linesText; recall = zeros 9; held = held; side = zeros (4 * quarter) }; screen = screen }
 
 abbrev pub linesLent : List ℕ → Lent
 linesLent screen = linesHolding (zeros 9) screen
@@ -129,13 +131,13 @@ namesRows screen first last =
 
 -- A quotation of so many letters in QUOTED, with a recall text of as many.
 abbrev pub quotedIn : ℕ → Session
-quotedIn n = recordIn 0 0 2 256 (lengths (sizes 0 0 0 0) (sizes 0 n 0 0) 0 0 0 Quoted 0 0 (At 0))
+quotedIn n = recordIn 0 0 2 1 (lengths (sizes 0 0 0 0) (sizes 0 n 0 0) 0 0 0 Quoted 0 0 (At 0))
 
 abbrev pub quotedLent : ℕ → Lent
 quotedLent n =
     record {
-      stores = record { text = zeros 1; recall = zeros 1; held = zeros 1; side = zeros (256 - n) ++ (replicate n 97 ++ zeros 768) };
-      screen = zeros 512;
+      stores = record { text = zeros 1; recall = zeros 1; held = zeros 1; side = zeros (quarter - n) ++ (replicate n 97 ++ zeros (3 * quarter)) };
+      screen = zeros 2;
     }
 
 abbrev pub quotes : ℕ → Key → ℕ → Bool
@@ -182,7 +184,7 @@ callPins =
     ∷ [])
     ∷ sentence "the named rows are those at which the lent screen differed, whatever it showed"
     (namesRows "x  abc" 0 0 ∷ namesRows "x. abc" 1 1 ∷ namesRows "x  .bc" 2 2 ∷ namesRows "x ..bc" 1 2 ∷ [])
-    ∷ sentence "FULL: the quotation would exceed 256"
-    (quotes 255 (Insert 98) 0 ∷ quotes 256 (Insert 98) 6 ∷ quotes 256 (Insert 9) 5 ∷ quotes 256 (Function Move Right Character) 0 ∷ [])
-    ∷ sentence "KEY for MARK, CUT and PASTE in QUOTED" (quotes 0 Mark 5 ∷ quotes 0 Cut 5 ∷ quotes 0 Paste 5 ∷ quotes 256 Paste 5 ∷ [])
+    ∷ sentence "FULL: the quotation would exceed 1,024 (M-109)"
+    (quotes 1023 (Insert 98) 0 ∷ quotes 1024 (Insert 98) 6 ∷ quotes 1024 (Insert 9) 5 ∷ [])
+    ∷ sentence "KEY for MARK, CUT and PASTE in QUOTED" (quotes 0 Mark 5 ∷ quotes 0 Cut 5 ∷ quotes 0 Paste 5 ∷ [])
     ∷ []

@@ -1,9 +1,10 @@
 -- What the third demand and M-100 say of a terminal that is kept up to date, with examples.
-use Rattle.window.specs.Words.{List, [], _∷_, Bool, _&&_, ℕ, eqb, LineBeginning, Key, Insert}
+use Rattle.window.specs.Words.{List, [], _∷_, Bool, _&&_, ℕ, _*_, eqb, LineBeginning, Key, Insert}
 use Rattle.gap.specs.Rules.Sequence.{zeros}
 use Rattle.gap.specs.Rules.Strings.{bytes}
 use Rattle.gap.specs.Tables.Sentence.{Sentence, sentence}
 use Rattle.gap.specs.Tables.Written.{stored, isBytes}
+use Rattle.editor.specs.Rules.Bytes.{quarter}
 use Rattle.editor.specs.Tables.KeyExamples.{moveRight}
 use Rattle.window.specs.Rules.Core.{Lent, opened}
 use Rattle.window.specs.Rules.Terminal.{repaint, Bench, openedBench, typed, View, openingView, viewed, picture}
@@ -13,7 +14,7 @@ use Rattle.window.specs.Tables.SendSamples.{seen, isSeen, dots}
 -- A deck of two rows and three columns, in stores of four bytes.
 abbrev pub deck : Lent
 deck =
-    record { stores = record { text = stored "a\nb_"; recall = zeros 4; held = zeros 4; side = zeros 1024 }; screen = zeros 6 }
+    record { stores = record { text = stored "a\nb_"; recall = zeros 4; held = zeros 4; side = zeros (4 * quarter) }; screen = zeros 6 }
 
 -- To the second line; an insert, one that is refused with KEY, and one that is refused with FULL.
 abbrev pub strokes : List Key

@@ -1,15 +1,10 @@
 -- What document 01 says of the window, each sentence with its examples: they open a text on bytes and press keys, as the edges do.
-use Rattle.window.specs.Words.{List, [], _∷_, _++_, Bool, ℕ, _-_, length, Character, LineBeginning, Document}
-use Rattle.window.specs.Words.{Key, Insert, Quote, Mark, Cut, Main, Unmarked}
+use Rattle.window.specs.Words.{List, [], _∷_, _++_, Bool, ℕ, _-_, Character, LineBeginning, Document}
+use Rattle.window.specs.Words.{Key, Insert, Quote, Mark, Cut}
 use Prim.Native.String.{String}
-use Rattle.gap.specs.Rules.Sequence.{zeros}
-use Rattle.gap.specs.Rules.Doc.{Doc, content}
 use Rattle.gap.specs.Tables.Sentence.{Sentence, sentence}
-use Rattle.gap.specs.Tables.Written.{marked}
-use Rattle.editor.specs.Tables.KeyExamples.{Seen, KeyExample, statesAll, moveLeft, moveRight, deleteRight, typed}
-use Rattle.editor.specs.Tables.SessionPins.{sizes, lengths}
-use Rattle.window.specs.Rules.Core.{Called, held, refusal}
-use Rattle.window.specs.Tables.Table.{Fact, Code, Offsets, Cursor, Named, Shows, Edge, pressing, outcome, allHold}
+use Rattle.editor.specs.Tables.KeyExamples.{moveLeft, moveRight, deleteRight, typed}
+use Rattle.window.specs.Tables.Table.{Fact, Code, Offsets, Cursor, Named, Shows, Edge, outcome, allHold}
 
 abbrev pub isRight : Edge → Bool
 isRight e = allHold (outcome e) (e .facts)
@@ -74,28 +69,3 @@ windowPins =
     ∷ on 2 4 "|a\na\nb" (moveRight Document ∷ []) (Offsets 1 0 ∷ Named 2 2 ∷ [])
     ∷ [])
     ∷ []
-
--- ---- The editor's examples on bytes
-
--- Record and stores with the cursor at the mark, seen through 3 rows and 10 columns; no key was pressed yet.
-abbrev pub standingBytes : ℕ → Doc → Called
-standingBytes T d =
-    record {
-      answer = refusal 0 0;
-      session =
-          record {
-            lengths = lengths (sizes (length (d .l)) (length (d .r)) 0 0) (sizes 0 0 0 0) 0 0 0 Main 0 0 Unmarked;
-            frame = record { r = 0; c = 0; h = 3; w = 10 };
-          };
-      lent =
-          record {
-            stores = record { text = d .l ++ (zeros (T - length (content d)) ++ d .r); recall = zeros T; held = zeros T; side = zeros 1024 };
-            screen = zeros 30;
-          };
-    }
-
-abbrev pub seenOf : Called → Seen
-seenOf o = record { code = o .answer .code; report = o .answer .report; state = held (o .session) (o .lent .stores) }
-
-unfoldable pub onBytes : KeyExample → Bool
-onBytes e = statesAll (seenOf (pressing (e .keys) (standingBytes (e .T) (marked (e .at))))) (e .facts)

@@ -16,7 +16,7 @@ use Rattle.window.specs.declared.Rows.{Rows}
 use Rattle.window.specs.declared.Reply.{Reply}
 use Rattle.window.specs.Rules.Window.{virtualIn, rowOf, columnOf, window, policyRow, policyColumn}
 use Rattle.window.specs.Rules.Rows.{firstRow, lastRow}
-use Rattle.window.specs.Rules.Core.{Lent, Called, tabled, isSession, refusal, zeroRecord, shown}
+use Rattle.window.specs.Rules.Core.{Lent, Called, tabled, sessionIn, refusal, zeroRecord, shown}
 
 -- ---- Cursor
 
@@ -31,9 +31,9 @@ pub record LeftCounted (above l m lines : ℕ) (text : List ℕ) : Type 0 where
   pub gained : l < m → 1 ≤ lines → newlinesLeft m text ≡ above + lines
   pub cut : m < l → above ≡ newlinesLeft m text + lines
 
--- What the session test finds.
-abbrev pub sessionTest : Session → Stores → SessionTest
-sessionTest s b = cond (isSession s b) (Passed (newlinesLeft (s .lengths .main .l) (b .text))) Failed
+-- What the session test finds, in quarters of Q bytes.
+abbrev pub sessionTest : ℕ → Session → Stores → SessionTest
+sessionTest Q s b = cond (sessionIn Q s b) (Passed (newlinesLeft (s .lengths .main .l) (b .text))) Failed
 
 -- Where the cursor of a document stands.
 abbrev pub spotIn : Doc → Spot
@@ -49,17 +49,31 @@ policyAt f s = record { r = policyRow f (s .row); c = policyColumn f (s .column)
 
 -- ---- Lent texts
 
--- Document and quotation lie in text and side store with these lengths.
-pub record Texts (n : Lengths) (text side : List ℕ) : Type 0 where
+-- Document and quotation lie in text and side store with these lengths, in quarters of Q bytes.
+pub record TextsIn (Q : ℕ) (n : Lengths) (text side : List ℕ) : Type 0 where
   pub document : n .main .l + n .main .r ≤ length text
   pub long : length text ≤ 65536
-  pub quotation : n .quoted .l + n .quoted .r ≤ quarter
-  pub quarters : length side ≡ 4 * quarter
+  pub quotation : n .quoted .l + n .quoted .r ≤ Q
+  pub quarters : length side ≡ 4 * Q
+
+abbrev pub Texts : Lengths → List ℕ → List ℕ → Type 0
+Texts n text side = TextsIn quarter n text side
 
 -- The virtual text that they hold.
+abbrev pub virtualHeldIn : ℕ → Lengths → List ℕ → List ℕ → Doc
+virtualHeldIn Q n text side =
+    virtualIn (n .mode) (ungap (n .main .l) (n .main .r) text) (ungap (n .quoted .l) (n .quoted .r) (quarterOf Q 0 side))
+
 abbrev pub virtualHeld : Lengths → List ℕ → List ℕ → Doc
-virtualHeld n text side =
-    virtualIn (n .mode) (ungap (n .main .l) (n .main .r) text) (ungap (n .quoted .l) (n .quoted .r) (quarterOf quarter 0 side))
+virtualHeld n text side = virtualHeldIn quarter n text side
+
+-- They lie there in quarters of some length, no longer than now.
+abbrev pub HasTexts : Lengths → List ℕ → List ℕ → Type 0
+HasTexts n text side = (Q : ℕ) × (Q ≤ quarter) × TextsIn Q n text side
+
+-- The spot of their cursor, whatever the length of a quarter is: it is left of the cursor that counts.
+abbrev pub IsSpot : Spot → Lengths → List ℕ → List ℕ → Type 0
+IsSpot s n text side = (Q : ℕ) → TextsIn Q n text side → s ≡ spotIn (virtualHeldIn Q n text side)
 
 -- A screen made new: it is the window, and the rows are those that changed.
 pub record Refreshed (f : Frame) (d : Doc) (old : List ℕ) (named : Rows) (new : List ℕ) : Type 0 where

@@ -52,6 +52,20 @@ extern "C" {
         buffer: *mut u8,
         buffer_length: usize,
     ) -> Painting;
+
+    fn chidukwore_convert(
+        record: Record,
+        text: *const u8,
+        text_length: usize,
+        recall: *const u8,
+        recall_length: usize,
+        held: *const u8,
+        held_length: usize,
+        old: *const u8,
+        old_length: usize,
+        side: *mut u8,
+        side_length: usize,
+    ) -> Reply;
 }
 
 pub struct Proved;
@@ -79,6 +93,23 @@ impl Core for Proved {
             painting.code = usize::MAX;
         }
         painting
+    }
+
+    /// The old stores are guarded too, and must stay as they are.
+    fn convert(&self, record: Record, old: &Stores, side: &mut [u8]) -> Reply {
+        let own = [&old.text, &old.recall, &old.held, &old.side];
+        let seen = own.map(|store| guarded(store));
+        let mut lent = guarded(side);
+        let [t, r, k, s] = seen.each_ref().map(|area| area[GUARD.len()..].as_ptr());
+        let [tl, rl, kl, sl] = own.map(Vec::len);
+        let into = lent[GUARD.len()..].as_mut_ptr();
+        let mut reply = unsafe { chidukwore_convert(record, t, tl, r, rl, k, kl, s, sl, into, side.len()) };
+        side.copy_from_slice(inside(&lent));
+        let same = own.iter().zip(&seen).all(|(store, area)| inside(area) == &store[..] && guards_stand(area));
+        if !same || !guards_stand(&lent) {
+            reply.answer.code = usize::MAX;
+        }
+        reply
     }
 }
 

@@ -4,24 +4,26 @@
 mod boundary;
 
 use second::compare::{calls, scripts, Counts};
+use second::converted::conversions;
 use second::core::{Core, Second};
 use second::painted::paintings;
 use std::path::PathBuf;
 use std::process::ExitCode;
 use std::time::Instant;
 
-const USAGE: &str = "compare [--seed S] [--scripts N] [--calls N] [--paintings N] [--self]";
+const USAGE: &str = "compare [--seed S] [--scripts N] [--calls N] [--paintings N] [--conversions N] [--self]";
 
 struct Options {
     seed: u64,
     scripts: u64,
     calls: u64,
     paintings: u64,
+    conversions: u64,
     with_itself: bool,
 }
 
 fn options() -> Option<Options> {
-    let mut options = Options { seed: 1, scripts: 100, calls: 10_000, paintings: 10_000, with_itself: false };
+    let mut options = Options { seed: 1, scripts: 100, calls: 10_000, paintings: 10_000, conversions: 10_000, with_itself: false };
     let mut words = std::env::args().skip(1);
     while let Some(word) = words.next() {
         let mut number = || words.next()?.parse().ok();
@@ -30,6 +32,7 @@ fn options() -> Option<Options> {
             "--scripts" => options.scripts = number()?,
             "--calls" => options.calls = number()?,
             "--paintings" => options.paintings = number()?,
+            "--conversions" => options.conversions = number()?,
             "--self" => options.with_itself = true,
             _ => return None,
         }
@@ -65,6 +68,12 @@ fn main() -> ExitCode {
     if found.is_ok() {
         println!("single paintings {}, damaged {}", options.paintings, counts.paintings_damaged);
         println!("  calls {}", counts.painted);
+        found = conversions(&*core, options.seed, options.conversions, &mut counts);
+    }
+    if found.is_ok() {
+        println!("conversions {}, damaged {}", options.conversions, counts.conversions_damaged);
+        println!("  calls {}", counts.converted);
+        println!("  keys after them {}", counts.on_converted);
         found = scripts(&*core, bench.as_deref(), options.seed, options.scripts, &mut counts);
     }
     if found.is_ok() {

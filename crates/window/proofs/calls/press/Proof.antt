@@ -29,9 +29,11 @@ fit : (c : tie.Else1) → tabled (start c .args .s .frame .h) (start c .args .s 
 fit c = sym (c .before .tabled-stores .ensures) ∙ not-false _ (c .if1 .left)
 
 session-test-requires : tie.Need-session-test-requires
-session-test-requires c κs = let else1 : tie.Else1 = search in tabled-facts _ _ _ (fit else1) .stores
+unfolding quarter
+session-test-requires c κs = let else1 : tie.Else1 = search in (omega arith, tabled-facts _ _ _ (fit else1) .stores)
 
 returns-2 : tie.Need-returns-2
+unfolding quarter
 returns-2 c =
     let else1 : tie.Else1 = search in let asked : tie.After-session-test = search in let told : tie.After-enum-told = search in
     refused-session _ _ _ (fit else1) (tested-none _ _ (asked .session-test .ensures) (told .enum-told .given .1)) _ (c .turned-down2 .ensures)
@@ -45,6 +47,7 @@ started c = start (sized c)
 
 tested : (c : tie.After-above) → let s = started c in
     (isSession (s .args .s) (entry s .stores) ≡ true) × (newlinesLeft (s .args .s .lengths .main .l) (entry s .stores .text) ≡ c .above .given .0 .0)
+unfolding quarter
 tested c = let asked : tie.After-session-test = search in tested-session _ _ (asked .session-test .ensures) (c .above .given .1)
 
 -- Where it has passed, record and stores are sound for the editor.

@@ -4,6 +4,7 @@ use mathlib.Core.Bool.{true}
 use native.Mathlib.Omega.{arith}
 use borrow.Author.Tests.{not-true, not-false}
 use borrow.Author.Needs.{needs}
+use Rattle.editor.specs.Rules.Bytes.{quarter}
 use Rattle.window.specs.Rules.Core.{rowsAndColumns}
 use Rattle.window.proofs.Laws.KeyCall.{not-tabled, tabled-so, product-small}
 use Rattle.window.proofs.calls.tabled_stores.Statement.{statement}
@@ -19,6 +20,7 @@ mul-result c =
     record { fits = omega (arith, product-small (s .args .h) (s .args .w) (small (c .before))) }
 
 returns-2 : tie.Need-returns-2
+unfolding quarter
 returns-2 c = tabled-so _ _ _ _ (c .sized-stores .ensures) (small (c .before))
 
 pub tabled-stores-spec : {M : Type 1} → statement M

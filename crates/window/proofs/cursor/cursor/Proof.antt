@@ -25,12 +25,14 @@ add-t18 c = omega (arith, add-t19 c)
 returns : tie.Need-returns
 returns c =
     let told : tie.After-enum-told = search in let start : tie.Start = search in
-    main-spot (start .args .n) (start .args .text .now) (start .args .side .now) (told .enum-told .given .1) (start .pre .1) (c .since-newline .ensures)
+    λ Q texts.
+    main-spot Q (start .args .n) (start .args .text .now) (start .args .side .now) (told .enum-told .given .1) (start .pre .1) (c .since-newline .ensures)
 
 returns-2 : tie.Need-returns-2
 returns-2 c =
     let within : tie.After-count-newlines = search in let told : tie.After-enum-told2 = search in let start : tie.Start = search in
-    quoted-spot (start .args .n) (start .args .text .now) (start .args .side .now) (omega (arith, start .pre .0 .quotation))
+    λ Q texts.
+    quoted-spot Q (start .args .n) (start .args .text .now) (start .args .side .now) (omega (arith, texts .quotation))
     (told .enum-told2 .given .1) (start .pre .1) (within .count-newlines .ensures) (c .since-newline2 .ensures)
 
 pub cursor-spec : {M : Type 1} → statement M
