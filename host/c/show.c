@@ -1,7 +1,8 @@
-/* Opens the deck in a file and presses some keys. Prints what each call answers and the bytes that a terminal is sent then, and at the
- * end the document. */
+/* Opens the deck in a file and presses some keys, the last ones from bytes as a terminal sends them. Prints what each call answers and the
+ * bytes that a terminal is sent then, and at the end the document. */
 #include <stdio.h>
 #include <stdlib.h>
+#include <string.h>
 
 #include "chidukwore.h"
 
@@ -68,6 +69,30 @@ static void convert(void)
     printf("convert: code %zu, pattern %c\n", reply.answer.code, side[2048]);
 }
 
+/* Bytes from a terminal, in a piece of at most 14. They come behind those that wait, at most 2, and each key is pressed as soon as it is
+ * there; what is no key is left out. */
+static void receive(const char *piece)
+{
+    static uint8_t bytes[16];
+    static size_t waiting;
+    size_t length = waiting + strlen(piece), at = 0;
+    memcpy(bytes + waiting, piece, strlen(piece));
+    for (;;) {
+        struct chidukwore_heard heard = chidukwore_receive(bytes + at, length - at);
+        if (heard.used == 0)
+            break;
+        at += heard.used;
+        printf("%zu received, ", heard.used);
+        if (heard.code != CHIDUKWORE_OK)
+            printf("no key: refused %zu\n", heard.code);
+        else
+            key("a key", heard.kind, heard.a, heard.b, heard.c);
+    }
+    waiting = length - at;
+    memmove(bytes, bytes + at, waiting);
+    printf("waiting for more: %zu\n", waiting);
+}
+
 int main(int argc, char **argv)
 {
     FILE *deck = argc == 2 ? fopen(argv[1], "rb") : NULL;
@@ -109,6 +134,8 @@ int main(int argc, char **argv)
     key("tab in the quotation", CHIDUKWORE_TAB, 0, 0, 0);
     key("newline in the quotation", CHIDUKWORE_NEWLINE, 0, 0, 0);
     key("no key", 99, 0, 0, 0);
+    receive("\033q\177\t\033[");
+    receive("H\r\033\033x\033");
     printf("document:\n");
     save(stdout);
     return 0;

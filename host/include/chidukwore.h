@@ -12,7 +12,8 @@
  *   side    4,096 bytes, in quarters of 1,024: quotation, its recall text, pattern, replacement
  *   screen  rows times columns bytes, row by row; rows 1 to 64, columns 1 to 256
  *
- * Painting is lent two: the screen, which it only reads, and a buffer of any length for the bytes that go to a terminal.
+ * Painting is lent two: the screen, which it only reads, and a buffer of any length for the bytes that go to a terminal. Receiving is lent
+ * the bytes that came from one, and only reads them.
  *
  * A call trusts the host with its pointers, and asks nothing else beforehand: each pointer is that of as many bytes as the length beside
  * it says, no two that are lent to one call overlap, and none is null, not even with length 0. Whatever the numbers and the bytes are, the
@@ -29,7 +30,7 @@ extern "C" {
 #endif
 
 /* Refusals. A call gives the first that applies: opening checks 1, 2, 3, 8, a key checks 1, 4, 5, 6, 8, painting checks 1, 3, 7,
- * converting checks 1, 4. */
+ * converting checks 1, 4. Receiving has 9 alone. */
 enum {
     CHIDUKWORE_OK = 0,
     CHIDUKWORE_SIZE = 1,    /* a store's length, rows or columns are not as above; painting: or the named rows are off the screen, out of
@@ -42,8 +43,9 @@ enum {
                                MARK, CUT or PASTE */
     CHIDUKWORE_FULL = 6,    /* key: the finished text would not fit its store */
     CHIDUKWORE_ROOM = 7,    /* painting: there are more bytes than the buffer holds */
-    CHIDUKWORE_LINE = 8     /* opening: a line of the text has more than 1,024 bytes, its newline not counted; place is the index of the first
+    CHIDUKWORE_LINE = 8,    /* opening: a line of the text has more than 1,024 bytes, its newline not counted; place is the index of the first
                                byte of the first such line. Key: the finished document would have such a line; place is 0 */
+    CHIDUKWORE_SEQUENCE = 9 /* receiving: a byte that no key continues */
 };
 
 /* Kinds of key, with what a, b and c say. Numbers that name no key are refused with CHIDUKWORE_KEY. */
@@ -148,6 +150,23 @@ struct chidukwore_painting {
  * 1 <= row <= rows; column <= columns. A buffer of rows * (columns + 7) + 9 bytes is always large enough. */
 struct chidukwore_painting chidukwore_paint(size_t rows, size_t columns, size_t first, size_t last, size_t row, size_t column,
                                             const uint8_t *screen, size_t screen_length, uint8_t *buffer, size_t buffer_length);
+
+/* What bytes received so far give:
+ *   used is not 0 and code is 0: a key, as the numbers that chidukwore_key takes;
+ *   used is 0: more bytes are needed; code is 0;
+ *   code is CHIDUKWORE_SEQUENCE: no key. used counts up to and including the first byte that no key continues, so 1 to 3.
+ * All other numbers are 0. */
+struct chidukwore_heard {
+    size_t code;    /* 0, or CHIDUKWORE_SEQUENCE */
+    size_t used;    /* how many of the bytes the answer is about, from the first on; the next call begins behind them */
+    size_t kind;    /* of the key, with a, b and c */
+    size_t a, b, c;
+};
+
+/* The first key of the bytes that a terminal sent. length may be 0. Keys have 1 to 3 bytes, and no key's bytes begin another's, so it does
+ * not matter in which pieces they arrive: a host keeps the bytes that were not used, at most 2, in front of the next that it reads.
+ * docs/KEYBOARD.md has the bytes of every key. */
+struct chidukwore_heard chidukwore_receive(const uint8_t *bytes, size_t length);
 
 #ifdef __cplusplus
 }

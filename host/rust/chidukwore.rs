@@ -75,6 +75,21 @@ pub struct Painting {
     pub count: usize,
 }
 
+/// What bytes received so far give: 0 or SEQUENCE; how many of them it is about, 0 where more are needed; and the key.
+#[repr(C)]
+#[derive(Clone, Copy, Debug, Default, PartialEq, Eq)]
+pub struct Heard {
+    pub code: usize,
+    pub used: usize,
+    pub kind: usize,
+    pub a: usize,
+    pub b: usize,
+    pub c: usize,
+}
+
+/// The refusal of bytes that are no key.
+pub const SEQUENCE: usize = 9;
+
 /// A key: its kind, and what a, b and c say of it.
 #[derive(Clone, Copy, Debug, PartialEq, Eq)]
 pub struct Key(pub usize, pub usize, pub usize, pub usize);
@@ -124,6 +139,7 @@ extern "C" {
         rows: usize, columns: usize, first: usize, last: usize, row: usize, column: usize,
         screen: *const u8, screen_length: usize, buffer: *mut u8, buffer_length: usize,
     ) -> Painting;
+    fn chidukwore_receive(bytes: *const u8, length: usize) -> Heard;
 }
 
 /// Opens the first n bytes of the text store.
@@ -192,4 +208,10 @@ pub fn paint(rows: usize, columns: usize, answer: Answer, screen: &[u8], buffer:
     let (buffer, buffer_length) = (buffer.as_mut_ptr(), buffer.len());
     // Sound: as above.
     unsafe { chidukwore_paint(rows, columns, first, last, row, column, screen, screen_length, buffer, buffer_length) }
+}
+
+/// The first key of the bytes that a terminal sent. Those that are not used, at most 2, go in front of the next that arrive.
+pub fn receive(bytes: &[u8]) -> Heard {
+    // Sound: as above.
+    unsafe { chidukwore_receive(bytes.as_ptr(), bytes.len()) }
 }

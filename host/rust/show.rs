@@ -1,10 +1,10 @@
-//! Opens the deck in a file and presses some keys. Prints what each call answers and the bytes that a terminal is sent then, and at the
-//! end the document.
+//! Opens the deck in a file and presses some keys, the last ones from bytes as a terminal sends them. Prints what each call answers and the
+//! bytes that a terminal is sent then, and at the end the document.
 
 mod chidukwore;
 
 use chidukwore::{
-    insert, Answer, Key, OldStores, Record, Reply, Stores, CUT, FIND, MARK, NEWLINE, OLD_SIDE, PASTE, QUOTE, RECALL, SIDE, TAB,
+    insert, Answer, Heard, Key, OldStores, Record, Reply, Stores, CUT, FIND, MARK, NEWLINE, OLD_SIDE, PASTE, QUOTE, RECALL, SIDE, TAB,
 };
 use std::process::ExitCode;
 
@@ -20,6 +20,8 @@ struct Bench {
     side: [u8; SIDE],
     screen: [u8; ROWS * COLUMNS],
     record: Record,
+    /// Bytes that came from a terminal and wait for more.
+    waiting: Vec<u8>,
 }
 
 impl Bench {
@@ -44,6 +46,25 @@ impl Bench {
     fn key(&mut self, what: &str, key: Key) {
         let reply = chidukwore::key(self.record, key, self.lent());
         self.print(what, reply);
+    }
+
+    /// Bytes from a terminal come behind those that wait, and each key is pressed as soon as it is there; what is no key is left out.
+    fn receive(&mut self, piece: &[u8]) {
+        self.waiting.extend(piece);
+        loop {
+            let Heard { code, used, kind, a, b, c } = chidukwore::receive(&self.waiting);
+            if used == 0 {
+                break;
+            }
+            self.waiting.drain(..used);
+            print!("{used} received, ");
+            if code != 0 {
+                println!("no key: refused {code}");
+            } else {
+                self.key("a key", Key(kind, a, b, c));
+            }
+        }
+        println!("waiting for more: {}", self.waiting.len());
     }
 
     /// The same session as an old core would have left it: its quarters have 256 bytes, and the pattern is in the third.
@@ -85,7 +106,8 @@ fn main() -> ExitCode {
         return ExitCode::FAILURE;
     };
     let (text, recall, held) = ([0; T], [0; T], [0; T]);
-    let mut bench = Bench { text, recall, held, side: [0; SIDE], screen: [0; ROWS * COLUMNS], record: Record::default() };
+    let (side, screen) = ([0; SIDE], [0; ROWS * COLUMNS]);
+    let mut bench = Bench { text, recall, held, side, screen, record: Record::default(), waiting: Vec::new() };
     if !bench.open(&deck) {
         return ExitCode::FAILURE;
     }
@@ -115,6 +137,8 @@ fn main() -> ExitCode {
     bench.key("tab in the quotation", TAB);
     bench.key("newline in the quotation", NEWLINE);
     bench.key("no key", Key(99, 0, 0, 0));
+    bench.receive(b"\x1bq\x7f\t\x1b[");
+    bench.receive(b"H\r\x1b\x1bx\x1b");
     print!("document:\n{}", String::from_utf8_lossy(&bench.document()));
     ExitCode::SUCCESS
 }

@@ -2,6 +2,7 @@
 
 use second::bytes::{Record, Stores};
 use second::core::{Core, Numbers, Reply, Second};
+use second::keyboard::Heard;
 use second::paint::{paint, Ask, Painting};
 use std::slice::{from_raw_parts, from_raw_parts_mut};
 
@@ -110,4 +111,11 @@ pub unsafe extern "C" fn chidukwore_convert(
         screen: Vec::new(),
     };
     Second.convert(record, &stores, from_raw_parts_mut(side, side_length))
+}
+
+/// # Safety
+/// As the header says.
+#[no_mangle]
+pub unsafe extern "C" fn chidukwore_receive(bytes: *const u8, length: usize) -> Heard {
+    Second.receive(from_raw_parts(bytes, length))
 }

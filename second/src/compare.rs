@@ -4,6 +4,7 @@ use crate::bytes::{Stores, LARGEST_T, NO_MARK};
 use crate::calls::{self, Call, Kind};
 use crate::core::{key_of, numbers_of, Answer, Core, Reply, Second};
 use crate::generate;
+use crate::heard::HeardCounts;
 use crate::paint_calls::PaintCall;
 use crate::painted::{self, Unpainted};
 use crate::plain::{press, Action, Doc, Edited, Editor, Key};
@@ -32,6 +33,9 @@ pub struct Counts {
     pub conversions_damaged: usize,
     /// Keys on sessions that were converted.
     pub on_converted: Codes,
+    pub heard: HeardCounts,
+    /// Calls of walks that came as bytes.
+    pub sent: Codes,
 }
 
 /// Calls by their codes.
@@ -131,7 +135,7 @@ fn a_walk(random: &mut Random, i: u64) -> Walk {
 }
 
 /// One call in both programs: the same reply and the same bytes in all five stores, or none.
-fn both(core: &dyn Core, call: &Call, codes: &mut Codes) -> Option<(Reply, Stores)> {
+pub fn both(core: &dyn Core, call: &Call, codes: &mut Codes) -> Option<(Reply, Stores)> {
     let outcome = call.outcome(core);
     if outcome != call.outcome(&Second) {
         return None;
@@ -201,7 +205,7 @@ fn bench_output(core: &dyn Core, bench: Option<&Path>, input: &[u8]) -> Vec<u8> 
     run().unwrap_or_else(|error| panic!("the bench program {} does not run: {error}", program.display()))
 }
 
-fn report_call(core: &dyn Core, call: &Call) -> String {
+pub fn report_call(core: &dyn Core, call: &Call) -> String {
     let name = match call.kind {
         Kind::Key { numbers, .. } => key_of(numbers).map_or("no key".into(), script::key_name),
         Kind::Open { .. } => "opening".into(),

@@ -1,8 +1,9 @@
 //! The opening call and the key call, on arbitrary bytes and numbers, with all refusals in their order; and what a core is: these two,
-//! the routine for terminals, and the conversion of old sessions.
+//! the routine for terminals, the conversion of old sessions, and the keys in bytes received.
 
 use crate::bytes::{encode, record, session, sizes_fit, Record, Stores};
 use crate::convert::{convert, Conversion};
+use crate::keyboard::{receive, Heard};
 use crate::paint::{paint, Ask, Painting};
 use crate::plain::{allowed, press, Action, Direction, Doc, Edited, Editor, Key, Place, Refusal};
 use crate::reader::too_long;
@@ -46,14 +47,15 @@ pub struct Numbers {
     pub c: usize,
 }
 
-/// Two calls on five lent stores, the bytes for terminals, and the conversion of old sessions: this program's, or the proved core's behind
-/// its boundary.
+/// Two calls on five lent stores, the bytes for terminals, the conversion of old sessions, and the keys in the bytes that terminals send:
+/// this program's, or the proved core's behind its boundary.
 pub trait Core {
     fn open(&self, n: usize, h: usize, w: usize, stores: &mut Stores) -> Reply;
     fn key(&self, record: Record, numbers: Numbers, stores: &mut Stores) -> Reply;
     fn paint(&self, ask: Ask, screen: &[u8], buffer: &mut [u8]) -> Painting;
     /// From the old stores, whose screen is not lent, to the new side store.
     fn convert(&self, record: Record, old: &Stores, side: &mut [u8]) -> Reply;
+    fn receive(&self, bytes: &[u8]) -> Heard;
 }
 
 /// This program.
@@ -115,6 +117,10 @@ impl Core for Second {
     fn convert(&self, record: Record, old: &Stores, side: &mut [u8]) -> Reply {
         let Conversion { code, record } = convert(record, old, side);
         Reply { answer: Answer { code, ..Answer::default() }, record }
+    }
+
+    fn receive(&self, bytes: &[u8]) -> Heard {
+        receive(bytes).into()
     }
 }
 

@@ -2,9 +2,10 @@
 //!
 //! The editor stands in `plain`, its mark in `mark`, what NEWLINE and TAB insert in `indent`, the lines a deck's reader takes in `reader`,
 //! its bytes in `bytes`, its screen in `window`, the calls on stores in `core`, the conversion of old sessions in `convert`, the bytes for
-//! terminals in `paint` and a terminal in `terminal`, the bench program in `script`. The other files make inputs (`random`, `generate`,
-//! `long_lines`; `walk` and `unreadable` scripts, `calls` and their `damage`, `paint_calls`, `convert_calls`), compare them (`compare`,
-//! `painted`, `converted`), and find and print the smallest that shows a difference (`shrink`, `show`).
+//! terminals in `paint`, those from them in `keyboard` and a terminal in `terminal`, the bench program in `script`. The other files make
+//! inputs (`random`, `generate`, `long_lines`; `walk` and `unreadable` scripts, `calls` and their `damage`, `paint_calls`, `convert_calls`,
+//! `streams`), compare them (`compare`, `painted`, `converted`, `heard`), and find and print the smallest that shows a difference (`shrink`,
+//! `show`).
 
 pub mod bytes;
 pub mod calls;
@@ -15,7 +16,9 @@ pub mod converted;
 pub mod core;
 pub mod damage;
 pub mod generate;
+pub mod heard;
 pub mod indent;
+pub mod keyboard;
 pub mod long_lines;
 pub mod mark;
 pub mod paint;
@@ -27,6 +30,7 @@ pub mod reader;
 pub mod script;
 pub mod show;
 pub mod shrink;
+pub mod streams;
 pub mod terminal;
 pub mod unreadable;
 pub mod walk;

@@ -5,6 +5,7 @@ use crate::calls::{Call, Kind};
 use crate::convert::OLD_QUARTER;
 use crate::convert_calls::{ConvertCall, Converted};
 use crate::core::Reply;
+use crate::keyboard::Heard;
 use crate::paint::Painting;
 use crate::paint_calls::PaintCall;
 use crate::plain::QUARTER;
@@ -120,4 +121,15 @@ pub fn converted(converted: &Converted) -> String {
         format!("  {:?}\n{}{changed}", reply.answer, numbers(reply.record))
     });
     head + &quarters + &keys.collect::<String>()
+}
+
+/// Bytes received.
+pub fn input(bytes: &[u8]) -> String {
+    format!("\"{}\"", bytes.escape_ascii())
+}
+
+/// What a stream is read as.
+pub fn reading((heard, waiting): &(Vec<Heard>, Vec<u8>)) -> String {
+    let lines = heard.iter().map(|heard| format!("  {heard:?}\n")).collect::<String>();
+    format!("{lines}  waiting for more: {}\n", input(waiting))
 }

@@ -363,6 +363,11 @@ fn smaller_paintings(call: &PaintCall) -> Vec<PaintCall> {
     all
 }
 
+/// A stream with fewer bytes.
+pub fn stream(stream: Vec<u8>, differs: impl FnMut(&[u8]) -> bool) -> Vec<u8> {
+    leave_out(stream, limited(differs))
+}
+
 /// A conversion with fewer keys, smaller numbers and fewer bytes.
 pub fn conversion(mut call: ConvertCall, differs: impl FnMut(&ConvertCall) -> bool) -> ConvertCall {
     let mut differs = limited(differs);

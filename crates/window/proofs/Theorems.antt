@@ -23,3 +23,4 @@ pub mod ShutOut
 pub mod RecallCalls
 pub mod CutCalls
 pub mod Conversion
+pub mod KeyboardToScreen

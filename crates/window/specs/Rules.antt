@@ -11,3 +11,4 @@ pub mod Machine
 pub mod Host
 pub mod HostRun
 pub mod HostConversion
+pub mod Receiving

@@ -6,6 +6,7 @@ pub mod cursor;
 pub mod host;
 pub mod host_conversion;
 pub mod host_keys;
+pub mod host_receive;
 pub mod painter;
 pub mod sender;
 pub mod sequences;

@@ -2,6 +2,7 @@
 
 use second::bytes::{Record, Stores};
 use second::core::{Core, Numbers, Reply};
+use second::keyboard::Heard;
 use second::paint::{Ask, Painting};
 
 #[rustfmt::skip]
@@ -66,6 +67,8 @@ extern "C" {
         side: *mut u8,
         side_length: usize,
     ) -> Reply;
+
+    fn chidukwore_receive(bytes: *const u8, length: usize) -> Heard;
 }
 
 pub struct Proved;
@@ -110,6 +113,16 @@ impl Core for Proved {
             reply.answer.code = usize::MAX;
         }
         reply
+    }
+
+    /// The bytes are guarded too, and must stay as they are.
+    fn receive(&self, bytes: &[u8]) -> Heard {
+        let seen = guarded(bytes);
+        let mut heard = unsafe { chidukwore_receive(seen[GUARD.len()..].as_ptr(), bytes.len()) };
+        if inside(&seen) != bytes || !guards_stand(&seen) {
+            heard.code = usize::MAX;
+        }
+        heard
     }
 }
 

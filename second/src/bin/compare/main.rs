@@ -6,12 +6,13 @@ mod boundary;
 use second::compare::{calls, scripts, Counts};
 use second::converted::conversions;
 use second::core::{Core, Second};
+use second::heard::{streams, HeardCounts};
 use second::painted::paintings;
 use std::path::PathBuf;
 use std::process::ExitCode;
 use std::time::Instant;
 
-const USAGE: &str = "compare [--seed S] [--scripts N] [--calls N] [--paintings N] [--conversions N] [--self]";
+const USAGE: &str = "compare [--seed S] [--scripts N] [--calls N] [--paintings N] [--conversions N] [--streams N] [--self]";
 
 struct Options {
     seed: u64,
@@ -19,11 +20,20 @@ struct Options {
     calls: u64,
     paintings: u64,
     conversions: u64,
+    streams: u64,
     with_itself: bool,
 }
 
 fn options() -> Option<Options> {
-    let mut options = Options { seed: 1, scripts: 100, calls: 10_000, paintings: 10_000, conversions: 10_000, with_itself: false };
+    let mut options = Options {
+        seed: 1,
+        scripts: 100,
+        calls: 10_000,
+        paintings: 10_000,
+        conversions: 10_000,
+        streams: 1_000,
+        with_itself: false,
+    };
     let mut words = std::env::args().skip(1);
     while let Some(word) = words.next() {
         let mut number = || words.next()?.parse().ok();
@@ -33,6 +43,7 @@ fn options() -> Option<Options> {
             "--calls" => options.calls = number()?,
             "--paintings" => options.paintings = number()?,
             "--conversions" => options.conversions = number()?,
+            "--streams" => options.streams = number()?,
             "--self" => options.with_itself = true,
             _ => return None,
         }
@@ -74,6 +85,13 @@ fn main() -> ExitCode {
         println!("conversions {}, damaged {}", options.conversions, counts.conversions_damaged);
         println!("  calls {}", counts.converted);
         println!("  keys after them {}", counts.on_converted);
+        found = streams(&*core, options.seed, options.streams, &mut counts);
+    }
+    if found.is_ok() {
+        let HeardCounts { keys, refused, more } = counts.heard;
+        println!("streams {}, each cut at every place, and all short inputs", options.streams);
+        println!("  heard: keys {keys}, SEQUENCE {refused}, more needed {more}");
+        println!("  calls of walks sent as bytes {}", counts.sent);
         found = scripts(&*core, bench.as_deref(), options.seed, options.scripts, &mut counts);
     }
     if found.is_ok() {

@@ -1,0 +1,3 @@
+pub mod Readings
+pub mod OneReading
+pub mod Pins

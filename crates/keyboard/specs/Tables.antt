@@ -1,0 +1,3 @@
+-- Worked examples, computed through the definitions.
+pub mod KeyboardPins
+pub mod StreamPins

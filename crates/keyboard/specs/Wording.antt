@@ -1,0 +1,2 @@
+-- How theorems of this layer speak. No rule stands here.
+pub mod Begun
