@@ -1,4 +1,6 @@
 // The bench program: it reads a script, opens its text, presses its keys, and prints what each call answers.
+#![tactic(auto)]
+
 mod print;
 mod run;
 mod script;

@@ -1,4 +1,6 @@
 // The editor layer: keys on a document, a quotation and their recall texts, without a screen.
+#![tactic(auto)]
+
 pub mod conversion;
 pub mod finds;
 pub mod indents;

@@ -1,4 +1,6 @@
 // The gap layer: texts with a cursor, the bytes that hold them, and the small tools that every layer uses.
+#![tactic(auto)]
+
 pub mod compare;
 pub mod decimals;
 pub mod fields;

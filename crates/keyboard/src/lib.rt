@@ -1,4 +1,6 @@
 // The keyboard layer: keys from the bytes that a terminal sends.
+#![tactic(auto)]
+
 pub mod letters;
 pub mod reader;
 

@@ -1,4 +1,6 @@
 // The window layer: the screen, the core's calls, and the bytes for a terminal.
+#![tactic(auto)]
+
 pub mod calls;
 pub mod cells;
 pub mod conversion;
