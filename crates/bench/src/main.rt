@@ -16,7 +16,7 @@ use editor::{Key, QUARTER};
 use window::Session;
 
 // What the four header lines say, and where the text stands in the input.
-#[derive(Drop)]
+#[derive(Clone, Copy)]
 pub struct Header {
     pub rows: usize,
     pub columns: usize,
@@ -26,21 +26,21 @@ pub struct Header {
 }
 
 // The header, or the number that `script=` prints.
-#[derive(Drop)]
+#[derive(Clone, Copy)]
 pub enum Heading {
     Headed(Header),
     Broken(usize),
 }
 
 // What a name names.
-#[derive(Drop)]
+#[derive(Clone, Copy)]
 pub enum Naming {
     Named(Key),
     Unnamed,
 }
 
 // What the next line says: a key, with the place of the line behind it; that there is none; or nothing that can be read.
-#[derive(Drop)]
+#[derive(Clone, Copy)]
 pub enum Reading {
     Pressed(Key, usize),
     Finished,
@@ -48,7 +48,7 @@ pub enum Reading {
 }
 
 // A row of the key table: a function key in numbers, the length of its name, and its name filled up with zeros.
-#[derive(Drop)]
+#[derive(Clone, Copy)]
 pub struct Entry {
     pub action: usize,
     pub direction: usize,
@@ -58,7 +58,7 @@ pub struct Entry {
 }
 
 // What a turn leaves: whether the program goes on, the place of the next line, the record, and how many bytes are to be printed.
-#[derive(Drop)]
+#[derive(Clone, Copy)]
 pub struct Turn {
     pub going: bool,
     pub at: usize,

@@ -19,14 +19,14 @@ pub mod stores;
 use gap::Direction;
 
 // What a function key does on its way to a place.
-#[derive(Drop)]
+#[derive(Clone, Copy)]
 pub enum Action {
     Move,
     Delete,
 }
 
 // The five kinds of place.
-#[derive(Drop)]
+#[derive(Clone, Copy)]
 pub enum Place {
     Character,
     Word,
@@ -36,7 +36,7 @@ pub enum Place {
 }
 
 // What stands on one side of a place: no byte at all, a space, a newline, or another byte. The word test decides by the two sides.
-#[derive(Drop)]
+#[derive(Clone, Copy)]
 pub enum Neighbour {
     Nothing,
     Space,
@@ -45,28 +45,28 @@ pub enum Neighbour {
 }
 
 // What a search for a place answers: how many moves away it is and how many newlines these pass, or that there is none.
-#[derive(Drop)]
+#[derive(Clone, Copy)]
 pub enum Passage {
     Reached(usize, usize),
     Nowhere,
 }
 
 // The mark: none, or one at a position between bytes of the document, counted from its beginning.
-#[derive(Drop)]
+#[derive(Clone, Copy)]
 pub enum Marking {
     Unmarked,
     At(usize),
 }
 
 // Which text the keys act on: the document or the quotation.
-#[derive(Drop)]
+#[derive(Clone, Copy)]
 pub enum Mode {
     Main,
     Quoted,
 }
 
 // A key. FIND is `Find(Direction::Right)`, UPFIND is `Find(Direction::Left)`.
-#[derive(Drop)]
+#[derive(Clone, Copy)]
 pub enum Key {
     Insert(u8),
     Function(Action, Direction, Place),
@@ -82,7 +82,7 @@ pub enum Key {
 }
 
 // The keys that act on one side, the document's or the quotation's.
-#[derive(Drop)]
+#[derive(Clone, Copy)]
 pub enum Edit {
     Insert(u8),
     Function(Action, Direction, Place),
@@ -98,7 +98,7 @@ pub const QUARTER: usize = 1024;
 pub const LONGEST_LINE: usize = 1024;
 
 // The lengths of one side: a text left and right of its cursor, and both halves of its recall text.
-#[derive(Drop)]
+#[derive(Clone, Copy)]
 pub struct Sizes {
     pub l: usize,
     pub r: usize,
@@ -108,7 +108,7 @@ pub struct Sizes {
 
 // The record without the window's part: the document's side and the quotation's, both halves of the replacement (xl, xr),
 // the pattern's length, the mode, both halves of the held text (hl, hr) and the mark.
-#[derive(Drop)]
+#[derive(Clone, Copy)]
 pub struct Lengths {
     pub main: Sizes,
     pub quoted: Sizes,
@@ -122,7 +122,7 @@ pub struct Lengths {
 }
 
 // What a key reports: its steps, the newlines that these pass, and its bell.
-#[derive(Drop)]
+#[derive(Clone, Copy)]
 pub struct Report {
     pub steps: usize,
     pub lines: usize,
@@ -130,7 +130,7 @@ pub struct Report {
 }
 
 // A change of the document in numbers: so many bytes before the cursor go and so many behind it, and so many come.
-#[derive(Drop)]
+#[derive(Clone, Copy)]
 pub struct Exchange {
     pub before: usize,
     pub behind: usize,
@@ -138,7 +138,7 @@ pub struct Exchange {
 }
 
 // What a key on one side replies: 0 or a refusal's number, its report, and the sizes now.
-#[derive(Drop)]
+#[derive(Clone, Copy)]
 pub struct SideReply {
     pub code: usize,
     pub report: Report,
@@ -146,7 +146,7 @@ pub struct SideReply {
 }
 
 // What this layer's key call replies: 0 or a refusal's number, its report, and the lengths now.
-#[derive(Drop)]
+#[derive(Clone, Copy)]
 pub struct EditorReply {
     pub code: usize,
     pub report: Report,

@@ -14,21 +14,21 @@ pub mod texts;
 pub mod writers;
 
 // Which way along a text.
-#[derive(Drop)]
+#[derive(Clone, Copy)]
 pub enum Direction {
     Left,
     Right,
 }
 
 // What a search answers: the distance to the nearest place, or that there is none.
-#[derive(Drop)]
+#[derive(Clone, Copy)]
 pub enum Search {
     Reached(usize),
     Nowhere,
 }
 
 // What reading a decimal number gives.
-#[derive(Drop)]
+#[derive(Clone, Copy)]
 pub enum Number {
     Read(usize),
     Unreadable,

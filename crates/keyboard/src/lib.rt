@@ -11,7 +11,7 @@ pub const SEQUENCE: usize = 9;
 
 // What the bytes received so far give: a key and how many of them it used; or more are needed, and none is used; or a refusal and how
 // many are used by it, up to and including the first byte that no key continues.
-#[derive(Drop)]
+#[derive(Clone, Copy)]
 pub enum Received {
     Pressed(Key, usize),
     More,

@@ -20,7 +20,7 @@ use gap::numbers::bit_of;
 // document's recall text and of the quotation's, of both halves of the replacement, of the pattern; mode; offsets; rows and columns; both halves
 // of the held text; mark.
 #[repr(C)]
-#[derive(Drop)]
+#[derive(Clone, Copy)]
 pub struct Record {
     pub l: usize,
     pub r: usize,
@@ -48,7 +48,7 @@ pub const NO_MARK: usize = 18446744073709551615;
 
 // The answer.
 #[repr(C)]
-#[derive(Drop)]
+#[derive(Clone, Copy)]
 pub struct Said {
     pub code: usize,
     pub place: usize,
@@ -63,7 +63,7 @@ pub struct Said {
 
 // The answer with the record handed back.
 #[repr(C)]
-#[derive(Drop)]
+#[derive(Clone, Copy)]
 pub struct HostReply {
     pub said: Said,
     pub back: Record,

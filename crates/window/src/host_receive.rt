@@ -11,7 +11,7 @@ use keyboard::reader::receive;
 
 // 0 or a refusal's number, the bytes used, and a key: kind and up to three numbers. Code 0 with 0 used is "more needed".
 #[repr(C)]
-#[derive(Drop)]
+#[derive(Clone, Copy)]
 pub struct Heard {
     pub code: usize,
     pub used: usize,

@@ -17,7 +17,7 @@ pub mod writer;
 use editor::{Lengths, Report};
 
 // The window's offsets r and c, and the screen's H rows and W columns.
-#[derive(Drop)]
+#[derive(Clone, Copy)]
 pub struct Frame {
     pub r: usize,
     pub c: usize,
@@ -26,21 +26,21 @@ pub struct Frame {
 }
 
 // The session record: it is handed over and back by value.
-#[derive(Drop)]
+#[derive(Clone, Copy)]
 pub struct Session {
     pub lengths: Lengths,
     pub frame: Frame,
 }
 
 // A place in the virtual text: rows from 1, columns from 0.
-#[derive(Drop)]
+#[derive(Clone, Copy)]
 pub struct Spot {
     pub row: usize,
     pub column: usize,
 }
 
 // The painter's pen: its line and column from 0, whether a cell of its row has changed, and the rows named so far.
-#[derive(Drop)]
+#[derive(Clone, Copy)]
 pub struct Pen {
     pub y: usize,
     pub x: usize,
@@ -50,14 +50,14 @@ pub struct Pen {
 }
 
 // The named rows, first and last.
-#[derive(Drop)]
+#[derive(Clone, Copy)]
 pub struct Rows {
     pub first: usize,
     pub last: usize,
 }
 
 // What a call answers.
-#[derive(Drop)]
+#[derive(Clone, Copy)]
 pub struct Answer {
     pub code: usize,
     pub place: usize,
@@ -69,7 +69,7 @@ pub struct Answer {
 }
 
 // The answer with the record handed back.
-#[derive(Drop)]
+#[derive(Clone, Copy)]
 pub struct Reply {
     pub answer: Answer,
     pub session: Session,
@@ -77,7 +77,7 @@ pub struct Reply {
 
 // What the routine for terminals answers: 0 or a refusal, the place of TEXT, and how many bytes it wrote.
 #[repr(C)]
-#[derive(Drop)]
+#[derive(Clone, Copy)]
 pub struct Sending {
     pub code: usize,
     pub place: usize,
@@ -85,7 +85,7 @@ pub struct Sending {
 }
 
 // What the session test finds: the newlines left of the document's cursor, or that record and stores are no session.
-#[derive(Drop)]
+#[derive(Clone, Copy)]
 pub enum SessionTest {
     Passed(usize),
     Failed,

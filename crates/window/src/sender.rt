@@ -14,7 +14,7 @@ use gap::Search;
 use gap::sound::bad_cell;
 
 // What a terminal is brought up to date with: the named rows, first and last, and the cursor, as a call answers them.
-#[derive(Drop)]
+#[derive(Clone, Copy)]
 pub struct Update {
     pub first: usize,
     pub last: usize,
