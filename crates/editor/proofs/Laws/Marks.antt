@@ -5,19 +5,19 @@ use Prim.Native.Nat.{ℕ, ◌+◌, ◌-◌, ◌≤◌, ◌<◌}
 use native.Mathlib.Omega.{arith}
 use borrow.Author.Tests.{le-leb, leb-true, leb-false, ltb-false, lt-leb, le-ltb, lt-ltb, eq-eqb, ne_eqb}
 use lib.Dec.{eqb, leb, ltb}
-use lib.ListN.{length, drop, length-append}
+use lib.ListN.{length, length-append}
 use Rattle.gap.proofs.Laws.Holdable.{length-splice}
 use Rattle.editor.specs.Words.{Direction, Mode, Main, Quoted, Marking, Unmarked, At}
 use Rattle.editor.specs.Words.{Key, Insert, Function, Recall, Quote, Find, Replace, Mark, Cut, Paste, Newline, Tab}
 use Rattle.editor.specs.Rules.Marks.{mark_through, mark_within}
-use Rattle.editor.specs.Rules.Plain.{Plain, quiet, rang, reporting, within}
+use Rattle.editor.specs.Rules.Plain.{Plain, quiet, rang, reporting}
 use Rattle.editor.specs.Rules.Indents.{newlined, tabbed}
 use Rattle.editor.specs.Rules.Keys.{inserted, function, recalled, with_side, quoted, with_pattern, matches, searched, found}
 use Rattle.editor.specs.Rules.Keys.{with_replacement, exchanged, substituted, replaced, marked_here, cut_to, pasted, acted, change_of, pressed}
 use mathlib.Core.Logic.{⊎_elim}
 use Rattle.gap.proofs.Laws.Tests.{decided}
 use Rattle.editor.proofs.Laws.MarkedStates.{on-side-mark}
-use Rattle.editor.proofs.Laws.Changes.{size, goes, content-changed, change-within}
+use Rattle.editor.proofs.Laws.Changes.{size, content-changed, change-within}
 
 -- ---- The rule of the mark, case by case
 

@@ -13,7 +13,7 @@ use Rattle.gap.specs.Rules.Layout.{allowed, Holdable}
 use Rattle.gap.proofs.Laws.Tests.{and_both, or_right}
 use Rattle.gap.proofs.Laws.Sequence.{every-both}
 use Rattle.gap.proofs.Laws.Indents.{spaces-allowed}
-use Rattle.gap.proofs.Laws.Holdable.{empty-holdable, splice-holdable, deletions-holdable, moves-holdable, removed-holdable}
+use Rattle.gap.proofs.Laws.Holdable.{splice-holdable, deletions-holdable, moves-holdable, removed-holdable}
 use Rattle.editor.specs.Words.{Direction, Left, Right, Passage, Reached, Nowhere, Action, Move, Delete}
 use Rattle.editor.specs.Rules.Plain.{Side}
 use Rattle.editor.specs.Rules.Indents.{leftward, inserted_run, indented_line, newlined, spaces_to_tab, tabbed}

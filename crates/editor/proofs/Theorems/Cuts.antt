@@ -15,7 +15,7 @@ use Rattle.editor.specs.Words.{Mark, Cut, Paste}
 use Rattle.editor.specs.Rules.Marks.{mark_through, mark_changed, way_to, far_to}
 use Rattle.editor.specs.Rules.Plain.{Plain, quiet, rang, went, Did, reporting, within}
 use Rattle.editor.specs.Rules.Keys.{carried, recalled, with_mark, marked_here, cut_to, pasted, acted, cutting, change_of, pressed}
-use Rattle.editor.proofs.Laws.Changes.{size, put_back, length_removed, far_within, goes}
+use Rattle.editor.proofs.Laws.Changes.{size, put_back, length_removed, far_within}
 use Rattle.editor.proofs.Laws.Marks.{cut-mark}
 use Rattle.editor.proofs.Theorems.Marks.{mark-unchanged, paste-mark}
 

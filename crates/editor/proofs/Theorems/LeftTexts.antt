@@ -8,12 +8,12 @@ use native.Mathlib.Nat.{sub-zero}
 use native.Mathlib.Omega.{arith}
 use lib.ListN.{length, take, length-append, length-take}
 use lib.Seq.{take-length, take_all, take-append_seam}
-use Rattle.gap.specs.Rules.Doc.{Doc, move, delete, times, splice}
+use Rattle.gap.specs.Rules.Doc.{Doc, delete, times, splice}
 use Rattle.gap.specs.Rules.Lines.{newlines}
 use Rattle.gap.specs.Rules.Nearest.{distance}
 use Rattle.gap.specs.declared.Search.TheVariants as found
 use Rattle.gap.proofs.Laws.Doc.{moves-left, moves-right, deletions-left, deletions-right}
-use Rattle.editor.specs.Words.{Direction, Left, Right, Search, Action, Move, Delete, Place, Mode, Main, Quoted}
+use Rattle.editor.specs.Words.{Direction, Left, Right, Search, Action, Move, Delete, Mode, Main, Quoted}
 use Rattle.editor.specs.Words.{Key, Insert, Function, Recall, Quote, Find, Replace, Mark, Cut, Paste, Newline, Tab}
 use Rattle.editor.specs.Rules.Places.{is_at}
 use Rattle.editor.specs.Rules.Passages.{with_lines, passage_to}

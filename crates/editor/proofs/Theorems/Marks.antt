@@ -11,7 +11,7 @@ use borrow.Author.Tests.{leb-true, leb-false, ltb-true, ltb-false, eqb-true, eqb
 use lib.Dec.{eqb, leb, ltb}
 use lib.ListN.{length, take}
 use lib.Seq.{take-length}
-use Rattle.gap.specs.Rules.Doc.{Doc, splice, removed}
+use Rattle.gap.specs.Rules.Doc.{Doc, splice}
 use Rattle.gap.proofs.Laws.Tests.{decided}
 use Rattle.gap.proofs.Laws.Doc.{splice-twice}
 use Rattle.editor.specs.Words.{Direction, Left, Right, Move, Delete, Place, Main, Quoted, Marking, Unmarked, At}

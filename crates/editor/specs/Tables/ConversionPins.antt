@@ -3,7 +3,7 @@
 use Rattle.editor.specs.Words.{List, [], ◌∷◌, Bool, not, ℕ, eqb, Key, Insert, Quote, Newline, Tab}
 use Rattle.gap.specs.Tables.Sentence.{Sentence, sentence}
 use Rattle.gap.specs.Tables.Written.{is_bytes, is_store, is_doc}
-use Rattle.editor.specs.Rules.Plain.{Plain, opening}
+use Rattle.editor.specs.Rules.Plain.{opening}
 use Rattle.editor.specs.Rules.Keys.{key, keys}
 use Rattle.editor.specs.Rules.Bytes.{Stores, quarter, sized, plain_of, editor_ok}
 use Rattle.editor.specs.Rules.Conversion.{old_quarter, converted_side, converted_stores}

@@ -1,0 +1,12 @@
+-- `place_passage`: the distance to a place is within the room, and has its lines.
+use mathlib.Core.Path.{ap, ◌∙◌}
+use Rattle.editor.specs.Rules.Passages.{with_lines, passage_to}
+use Rattle.editor.proofs.Laws.SideEdits.{distance-in-room}
+use Rattle.editor.proofs.passages.place_passage.Goals as goal
+
+pub with_lines-requires : goal.with_lines-requires
+with_lines-requires c = record { r_in_bounds = c.requires; in_room = distance-in-room _ _ _ _ _ c.requires c.place_distance.ensures }
+
+pub returns : goal.returns
+unfolding passage_to
+returns c = c.with_lines.ensures ∙ ap (with_lines _ _) c.place_distance.ensures

@@ -1,0 +1,35 @@
+-- `search` is a move on the document's side by the distance that was found; where none was found, the move that only rings.
+use mathlib.Core.Path.{refl}
+use native.Mathlib.Omega.{arith}
+use Rattle.editor.specs.Words.{Move, Main}
+use Rattle.editor.specs.Rules.Bytes.{quarter}
+use Rattle.editor.proofs.Laws.SideEdits.{not_carried, within-room}
+use Rattle.editor.proofs.Laws.Replies.{on-side}
+use Rattle.editor.proofs.Laws.FindReplace.{search-done}
+use Rattle.editor.proofs.searches.search.Goals as goal
+
+pub overflow_add-end : goal.overflow_add-end
+unfolding quarter
+overflow_add-end c = omega (arith, c.requires.pattern)
+
+pub slice_bounds-match_passage-end : goal.slice_bounds-match_passage-end
+unfolding quarter
+slice_bounds-match_passage-end c = omega (arith, c.requires.pattern, c.requires.quarters)
+
+pub match_passage-requires : goal.match_passage-requires
+match_passage-requires c = c.requires.document.fits
+
+pub returns-in_default : goal.returns-in_default
+unfolding quarter
+returns-in_default c =
+    λ recall held sound. search-done quarter _ _ sound _ _ _ c.match_passage.ensures c.in_default.is _ _ _ _ c.edited.ensures
+    (not_carried (on-side quarter _ _ sound Main) Move _ refl refl)
+
+pub move_side-t-requires : goal.move_side-t-requires
+move_side-t-requires c = record { gap = c.requires.document; d_bound = within-room c.args.n.main c.requires.document _ _ c.match_passage.ensures c.in-Reached.is }
+
+pub returns : goal.returns
+unfolding quarter
+returns c =
+    λ recall held sound. search-done quarter _ _ sound _ _ _ c.match_passage.ensures c.in-Reached.is _ _ _ _ c.lifted.ensures
+    (c.move_side-t.ensures _ _ (on-side quarter _ _ sound Main))

@@ -1,0 +1,20 @@
+-- `recall_side`: refused where the pair does not fit or makes a line too long, and else landed with both halves more.
+use mathlib.Core.Path.{refl, sym, ◌∙◌}
+use native.Mathlib.Omega.{arith}
+use Rattle.editor.proofs.Laws.Splices.{halves-fit}
+use Rattle.editor.proofs.Laws.SideEdits.{recall-refused, recall-long, recall-done}
+use Rattle.editor.proofs.sides.recall_side.Goals as goal
+
+pub returns-then-text-l : goal.returns-then-text-l
+returns-then-text-l c = recall-refused c.requires c.refused.ensures c.if-text-l.true
+
+pub pair_fits-requires : goal.pair_fits-requires
+pair_fits-requires c = record { y_in_bounds = (omega (arith, c.requires.gap.fits, c.if-text-l.false), c.requires.pair.fits); halves_fit = halves-fit _ _ _ _ c.requires.lines }
+
+pub returns-then-not-pair_fits : goal.returns-then-not-pair_fits
+returns-then-not-pair_fits c = recall-long c.requires c.refused-then-not-pair_fits.ensures c.if-text-l.false (sym c.pair_fits.ensures ∙ c.if-not-pair_fits.true)
+
+pub returns : goal.returns
+returns c =
+    recall-done c.requires c.done.ensures refl c.if-text-l.false (sym c.pair_fits.ensures ∙ c.if-not-pair_fits.false)
+    c.place_pair.ensures
