@@ -33,7 +33,7 @@ module _ (front : List ℕ) (b : ℕ) where
   unfolding key_among
   unlisted told [] none = (none, refl)
   unlisted told (k ∷ ks) none =
-      let (both, later) = unlisted _ ks none in
+      let (both, later) = unlisted (told × (b ≡ get_or (bytes_of k) (length front) 0 → ⊥)) ks none in
       let other = ⊎_elim
       (λ same. absurd (both.1 (sym (last_of front) ∙ ap (λ s. get_or s (length front) 0) (same-equal _ (bytes_of k) same))))
       (λ differs. differs)
