@@ -16,29 +16,21 @@ pub struct Writer<'a> {
 
 // An empty writer: the mark stands at the front.
 fn at_front<'a>(out: &'a mut [u8]) -> Writer<'a>
-    ensures { (result.out ≡ out.entry) × (result.at ≡ 0) }
+    ensures same_reference { result.out.ghost_name ≡ out.entry.ghost_name }
+    ensures empty { (result.out ≡ out.entry) × (result.at ≡ 0) }
 {
     Writer { out: out, at: 0 }
 }
 
-// The named rows go behind what the writer holds, and it is handed back.
-fn with_rows<'a, 'b>(
-    t: Writer<'a>,
-    w: usize,
-    first: usize,
-    last: usize,
-    screen: &'b [u8],
-) -> Writer<'a>
+// The named rows go behind what the writer holds. That it holds the same reference afterwards is what ties the buffer to the writer.
+fn with_rows<'a>(t: &mut Writer<'a>, w: usize, first: usize, last: usize, screen: &[u8])
     requires rows_in { RowsIn w first last screen.now }
-    requires screen_in_bounds { t.at + length (sent_rows w first last screen.now) ≤ length t.out.now }
-    ensures { result ≡ filled t.entry (sent_rows w first last screen.now) }
+    requires screen_in_bounds { t.old.at + length (sent_rows w first last screen.now) ≤ length t.old.out.now }
+    ensures same_reference { t.new.out.ghost_name ≡ t.old.out.ghost_name }
+    ensures with_the_rows { t.new ≡ filled t.old (sent_rows w first last screen.now) }
 {
     let at = t.at;
-    let next = put_rows(w, first, last, screen, &mut *t.out, at);
-    Writer {
-        out: t.out,
-        at: next,
-    }
+    t.at = put_rows(w, first, last, screen, &mut *t.out, at);
 }
 
 // A spot goes behind what the writer holds. It is the last that is written, so the mark is handed back alone: it is the count.
@@ -65,9 +57,7 @@ pub fn write_screen(
     requires column_in_bounds { length (sent_rows w first last screen.now ++ sent_spot row column) ≤ length out.old }
     ensures { Wrote 0 (sent_rows w first last screen.now ++ sent_spot row column) out.old result out.new }
 {
-    with_spot(
-        with_rows(at_front(out), w, first, last, screen),
-        row,
-        column,
-    )
+    let mut writer = at_front(out);
+    with_rows(&mut writer, w, first, last, screen);
+    with_spot(writer, row, column)
 }

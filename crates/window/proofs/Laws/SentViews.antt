@@ -24,19 +24,19 @@ cursor-on f d seen =
     (and_both (le-leb (row_of d - f.r) f.h (omega (arith, at))) (le-leb (column_of d - f.c) f.w (omega (arith, at))))
 
 -- Rows in order, and none.
-rows_on : (H first last : ℕ) → 1 ≤ first → first ≤ last → last ≤ H → rows_on H first last ≡ true
-rows_on H first last low ordered high =
+rows_on_lem : (H first last : ℕ) → 1 ≤ first → first ≤ last → last ≤ H → rows_on H first last ≡ true
+rows_on_lem H first last low ordered high =
     or_right (eqb first 0 && eqb last 0) (and_both (le-leb 1 first low) (and_both (le-leb first last ordered) (le-leb last H high)))
 
 named-on : (test : ℕ → Bool) (H first last : ℕ) → Named test H first last → rows_on H first last ≡ true
 named-on test H _ _ (nothing none) = refl
-named-on test H _ _ (run {first} {last} ends) = rows_on H first last ends.low ends.ordered ends.high
+named-on test H _ _ (run {first} {last} ends) = rows_on_lem H first last ends.low ends.ordered ends.high
 
 pub changed-on : (H W : ℕ) (old new : List ℕ) → rows_on H (first_row H W old new) (last_row H W old new) ≡ true
 changed-on H W old new = named-on (changed W old new) H _ _ (named H W old new)
 
 pub every-on : (H : ℕ) → 1 ≤ H → rows_on H 1 H ≡ true
-every-on H some = rows_on H 1 H (omega arith) some (omega arith)
+every-on H some = rows_on_lem H 1 H (omega arith) some (omega arith)
 
 -- Where the cursor of a view is on the screen.
 abbrev pub cursor_row : View → ℕ

@@ -17,7 +17,7 @@ use Rattle.gap.specs.Rules.Lines.{newline, newlines, since_after, since}
 use Rattle.gap.specs.Rules.Layout.{ungap}
 use Rattle.gap.proofs.Laws.Tests.{decided}
 use Rattle.gap.proofs.Laws.Lines.{newlines-append, since-append}
-use Rattle.editor.specs.Rules.Bytes.{quarter, quarter_of}
+use Rattle.editor.specs.Rules.Bytes.{quarter_of}
 use Rattle.window.specs.Words.{Lengths, Main, Quoted, Frame}
 use Rattle.window.specs.declared.Spot.{Spot}
 use Rattle.window.specs.Rules.Window.{virtual_in, visible, policy, policy_row, policy_column}

@@ -9,7 +9,7 @@ use native.Mathlib.Omega.{arith}
 use lib.Dec.{eqb, leb}
 use lib.ListN.{take}
 use borrow.Author.Tests.{eqb-true, leb-true, le-leb}
-use Rattle.gap.specs.Rules.Layout.{printable, allowed}
+use Rattle.gap.specs.Rules.Layout.{printable}
 use Rattle.gap.proofs.Laws.Tests.{and_right, or_cases, cond-true}
 use Rattle.editor.specs.Rules.Plain.{opening}
 use Rattle.editor.specs.Rules.Keys.{keys}

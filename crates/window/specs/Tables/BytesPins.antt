@@ -6,7 +6,7 @@ use Rattle.gap.specs.Tables.Written.{marked}
 use Rattle.editor.specs.Rules.Refusals.{SESSION}
 use Rattle.editor.specs.Rules.Plain.{refused}
 use Rattle.editor.specs.Rules.Keys.{key}
-use Rattle.editor.specs.Rules.Bytes.{Stores, sized, plain_of, editor_ok, Edited, unedited, edited_to}
+use Rattle.editor.specs.Rules.Bytes.{sized, plain_of, editor_ok, Edited, unedited, edited_to}
 use Rattle.editor.specs.Tables.KeyExamples.{Seen, KeyExample, states_all}
 use Rattle.editor.specs.Tables.SessionPins.{sizes, lengths}
 

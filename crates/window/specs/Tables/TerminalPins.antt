@@ -1,5 +1,5 @@
 -- What the third demand and M-100 say of a terminal that is kept up to date, with examples.
-use Rattle.window.specs.Words.{List, [], ◌∷◌, Bool, ◌&&◌, ℕ, ◌*◌, eqb, LineBeginning, Key, Insert}
+use Rattle.window.specs.Words.{List, [], ◌∷◌, Bool, ◌*◌, LineBeginning, Key, Insert}
 use Rattle.gap.specs.Rules.Sequence.{zeros}
 use Rattle.gap.specs.Rules.Strings.{bytes}
 use Rattle.gap.specs.Tables.Sentence.{Sentence, sentence}
@@ -7,7 +7,7 @@ use Rattle.gap.specs.Tables.Written.{stored, is_bytes}
 use Rattle.editor.specs.Rules.Bytes.{quarter}
 use Rattle.editor.specs.Tables.KeyExamples.{move_right}
 use Rattle.window.specs.Rules.Core.{Lent, opened}
-use Rattle.window.specs.Rules.Terminal.{repaint, Bench, opened_bench, typed, View, opening_view, viewed, picture}
+use Rattle.window.specs.Rules.Terminal.{repaint, opened_bench, typed, opening_view, viewed, picture}
 use Rattle.window.specs.Rules.Machine.{opened_line, typed_line, showing}
 use Rattle.window.specs.Tables.SendSamples.{seen, is_seen, dots}
 

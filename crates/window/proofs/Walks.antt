@@ -1,4 +1,0 @@
-pub mod Steps
-pub mod Apart
-pub mod Held
-pub mod LentAgain

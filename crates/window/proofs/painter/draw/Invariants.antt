@@ -1,0 +1,12 @@
+-- `painter::draw` meets its contract: what is left of the text decides, run by run and line by line.
+use Prim.Native.Nat.{◌-◌}
+use lib.ListN.{length}
+use Rattle.window.specs.Wording.Painter.{sheet}
+use Rattle.window.proofs.Laws.Drawing.{Drawn}
+use Rattle.window.proofs.painter.draw.Given as goal
+
+abbrev pub invariant-loop-i : goal.invariant-loop-i
+invariant-loop-i l = Drawn l.f l.t (sheet l.initial.now l.initial.screen) l.i (sheet l.now l.screen)
+
+abbrev pub decreases-loop-i : goal.decreases-loop-i
+decreases-loop-i l = length l.t - l.i

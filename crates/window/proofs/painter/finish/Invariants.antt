@@ -1,0 +1,11 @@
+-- `painter::finish` meets its contract: the lines before y have ended, and those that are left decide.
+use Prim.Native.Nat.{◌+◌, ◌-◌}
+use Rattle.window.specs.Wording.Painter.{sheet}
+use Rattle.window.proofs.Laws.Drawing.{Finished}
+use Rattle.window.proofs.painter.finish.Given as goal
+
+abbrev pub invariant-loop-y : goal.invariant-loop-y
+invariant-loop-y l = Finished l.f (sheet l.initial.now l.initial.screen) l.y (sheet l.now l.screen)
+
+abbrev pub decreases-loop-y : goal.decreases-loop-y
+decreases-loop-y l = l.f.r + l.f.h - l.y

@@ -1,0 +1,42 @@
+-- `painter::paint_piece` meets its contract: what lies above the window is counted, and the rest is drawn.
+use mathlib.Core.Path.{◌∙◌}
+use native.Mathlib.Omega.{arith}
+use borrow.Author.Tests.{le-ltb}
+use Rattle.window.specs.Wording.Painter.{sheet}
+use Rattle.gap.proofs.Laws.Lines.{newlines-fit}
+use Rattle.window.proofs.Laws.Pieces.{piece-above, piece-lines, first-line, piece-asked, piece-painted}
+use Rattle.window.proofs.painter.paint_piece.Goals as goal
+
+pub draw-requires : goal.draw-requires
+draw-requires c = record { easel = c.requires; pen_value = le-ltb _ _ c.if-r-y.true }
+
+pub returns-then-r-y : goal.returns-then-r-y
+returns-then-r-y c = c.draw.ensures
+
+pub overflow_add-below : goal.overflow_add-below
+overflow_add-below c = omega (arith, c.count_newlines.ensures, newlines-fit c.args.t.now, c.requires.pen)
+
+pub since_newline-requires : goal.since_newline-requires
+since_newline-requires c = omega (arith, c.requires.pen)
+
+pub returns-then-below-r : goal.returns-then-below-r
+returns-then-below-r c =
+    piece-above c.args.f c.args.t.now (sheet c.args.pen c.args.screen.now) c.count_newlines.ensures
+    c.since_newline.ensures c.if-below-r.true
+
+pub line_start-at-requires : goal.line_start-at-requires
+line_start-at-requires c =
+    piece-lines c.args.f c.args.t.now (sheet c.args.pen c.args.screen.now) c.count_newlines.ensures
+    c.if-r-y.false c.if-below-r.false
+
+pub slice_bounds-draw-count : goal.slice_bounds-draw-count
+slice_bounds-draw-count c = c.line_start-at.ensures.within
+
+pub slice_bounds-draw-start : goal.slice_bounds-draw-start
+slice_bounds-draw-start c = c.line_start-at.ensures.within
+
+pub draw-requires-2 : goal.draw-requires-2
+draw-requires-2 c = let both = piece-asked ((first-line _ _ _ c.count_newlines.ensures c.if-r-y.false c.if-below-r.false c.line_start-at.ensures)) c.requires in record { easel = both.0; pen_value = both.1 }
+
+pub returns : goal.returns
+returns c = c.draw-2.ensures ∙ piece-painted ((first-line _ _ _ c.count_newlines.ensures c.if-r-y.false c.if-below-r.false c.line_start-at.ensures))
