@@ -1,5 +1,4 @@
--- The words that the definitions of this layer speak with, passed on in one place.
-pub use Rattle.std.specs.Prelude.{List, [], ◌∷◌, ◌++◌, map, Bool, true, false, not, ◌&&◌, cond, ℕ, zero, suc, ◌+◌, eqb, leb, length, drop}
+-- The types and cases that the definitions of this layer speak with, passed on in one place.
 pub use Rattle.gap.specs.declared.Direction.{Direction}
 pub use Rattle.gap.specs.declared.Direction.TheVariants.{Left, Right}
 pub use Rattle.editor.specs.declared.Action.{Action}

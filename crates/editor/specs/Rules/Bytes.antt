@@ -1,7 +1,7 @@
 -- The plain state as record and stores: writing it down, reading it back, and the session test without the window's part.
 -- T is the length of the text store, Q that of a quarter of the side store.
-use Rattle.editor.specs.Words.{List, [], ◌++◌, Bool, true, ◌&&◌, ◌||◌, ℕ, ◌*◌, eqb, ◌+◌, leb, length, Mode, Main, Quoted, Unmarked, Sizes, Lengths}
-use Rattle.std.specs.Prelude.{◌≡◌}
+use Rattle.editor.specs.Words.{Mode, Main, Quoted, Unmarked, Sizes, Lengths}
+use Rattle.std.specs.Prelude.{◌≡◌, List, [], ◌++◌, Bool, true, ◌&&◌, ◌||◌, ℕ, ◌*◌, eqb, ◌+◌, leb, length}
 use Rattle.gap.specs.Rules.Sequence.{part}
 use Rattle.gap.specs.Rules.Doc.{Doc, content}
 use Rattle.gap.specs.Rules.LineLimits.{lines_fit}

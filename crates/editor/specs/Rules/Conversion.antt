@@ -1,5 +1,6 @@
 -- Request M-109: a quarter had 256 bytes before, and an old session's side store is converted to longer quarters.
-use Rattle.editor.specs.Words.{List, ℕ, length, Lengths}
+use Rattle.std.specs.Prelude.{List, ℕ, length}
+use Rattle.editor.specs.Words.{Lengths}
 use Rattle.editor.specs.Rules.Bytes.{Stores, plain_of, stores_of}
 
 -- The length that a quarter had. (02, M-109: the old rule.)

@@ -1,5 +1,5 @@
 -- NEWLINE and TAB on one side, the document's or the quotation's. (02, M-105: indented lines.)
-use Rattle.editor.specs.Words.{List, [], ◌∷◌, ℕ, ◌-◌, ◌%◌, length}
+use Rattle.std.specs.Prelude.{List, [], ◌∷◌, ℕ, ◌-◌, ◌%◌, length}
 use Rattle.gap.specs.Rules.Doc.{Doc, splice}
 use Rattle.gap.specs.Rules.Lines.{newline, since}
 use Rattle.gap.specs.Rules.Indents.{spaces, indent}

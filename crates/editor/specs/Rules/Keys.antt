@@ -1,10 +1,10 @@
 -- The keys on the plain state. (01, plain editor, from the function keys on.)
 use Rattle.gap.specs.Rules.Checks.{Check, check, unless}
-use Rattle.editor.specs.Words.{List, [], ◌∷◌, Bool, true, false, ◌&&◌, cond, ℕ, leb, length, Marking, Unmarked, At}
+use Rattle.editor.specs.Words.{Marking, Unmarked, At}
 use Rattle.editor.specs.Words.{Direction, Left, Right, Passage, Reached, Nowhere, Action, Move, Delete, Mode, Main, Quoted}
 use Rattle.editor.specs.Words.{Place, Character, Word, LineBeginning, LineEnding, Document}
 use Rattle.editor.specs.Words.{Key, Insert, Function, Recall, Quote, Find, Replace, Mark, Cut, Paste, Newline, Tab}
-use Rattle.std.specs.Prelude.{◌≡◌, ◌⊎◌, ◌<◌, get_or}
+use Rattle.std.specs.Prelude.{◌≡◌, ◌⊎◌, ◌<◌, get_or, List, [], ◌∷◌, Bool, true, false, ◌&&◌, cond, ℕ, leb, length}
 use Rattle.gap.specs.Rules.Sequence.{begins}
 use Rattle.gap.specs.Rules.Doc.{Doc, content, move, delete, times, removed, splice}
 use Rattle.gap.specs.Rules.Lines.{lines}

@@ -1,5 +1,5 @@
 -- The lines of the document against what the optimiser's reader takes. (02, M-106: no line longer than the reader takes.)
-use Rattle.editor.specs.Words.{Bool, ℕ}
+use Rattle.std.specs.Prelude.{Bool, ℕ}
 use Rattle.gap.specs.Rules.Doc.{content}
 use Rattle.gap.specs.Rules.LineLimits.{lines_fit}
 use Rattle.editor.specs.Rules.Plain.{Plain}

@@ -1,5 +1,6 @@
 -- The mark, and how it goes through a change of the document. (02, M-101: the mark.)
-use Rattle.editor.specs.Words.{Bool, true, cond, ℕ, ◌+◌, ◌-◌, eqb, leb, ltb, length, Direction, Left, Right, Marking, Unmarked, At}
+use Rattle.std.specs.Prelude.{Bool, true, cond, ℕ, ◌+◌, ◌-◌, eqb, leb, ltb, length}
+use Rattle.editor.specs.Words.{Direction, Left, Right, Marking, Unmarked, At}
 use Rattle.gap.specs.Rules.Doc.{Doc, empty}
 
 -- From a position on so many bytes are removed, and then so many inserted there. Up to that position the mark stays, so that what is inserted

@@ -1,5 +1,6 @@
 -- A search for a place gives the distance and the newlines that it passes. (02, M-104: lines crossed.)
-use Rattle.editor.specs.Words.{Bool, ℕ, Direction, Search, Passage, Reached, Nowhere}
+use Rattle.std.specs.Prelude.{Bool, ℕ}
+use Rattle.editor.specs.Words.{Direction, Search, Passage, Reached, Nowhere}
 use Rattle.gap.specs.declared.Search.TheVariants as found
 use Rattle.gap.specs.Rules.Doc.{Doc, passed}
 use Rattle.gap.specs.Rules.Lines.{newlines}

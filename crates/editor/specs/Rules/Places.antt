@@ -1,5 +1,6 @@
 -- The five kinds of place, each a test of a document. (01, plain editor: places.)
-use Rattle.editor.specs.Words.{List, [], ◌∷◌, Bool, true, false, cond, ℕ, eqb, Direction, Left, Right}
+use Rattle.std.specs.Prelude.{List, [], ◌∷◌, Bool, true, false, cond, ℕ, eqb}
+use Rattle.editor.specs.Words.{Direction, Left, Right}
 use Rattle.editor.specs.Words.{Place, Character, Word, LineBeginning, LineEnding, Document}
 use Rattle.editor.specs.Words.{Neighbour}
 use Rattle.editor.specs.declared.Neighbour.TheVariants.{Nothing, Space, Newline, Other}

@@ -1,5 +1,6 @@
 -- The editor's state without bytes, and what a key reports.
-use Rattle.editor.specs.Words.{List, [], true, false, ℕ, Mode, Main, Marking, Unmarked, Report}
+use Rattle.std.specs.Prelude.{List, [], true, false, ℕ}
+use Rattle.editor.specs.Words.{Mode, Main, Marking, Unmarked, Report}
 use Rattle.gap.specs.Rules.Doc.{Doc, empty}
 
 -- A text and what its last deletion took: the document has such a side, and so has the quotation.

@@ -1,5 +1,5 @@
 -- The refusals by number and name. In which order a call gives them is a list of checks (gap/specs/Rules/Checks). (01, refusal numbers.)
-use Rattle.editor.specs.Words.{ℕ}
+use Rattle.std.specs.Prelude.{ℕ}
 
 -- 01, the table of refusals; 7 is M-100's, 8 M-106's.
 abbrev pub SIZE : ℕ

@@ -1,6 +1,7 @@
 -- What request M-109 says of longer quarters, on quarters so small that they can be read: old ones of 4 bytes, new ones of 6, and one of 16
 -- for FULL. A free byte is written `_`.
-use Rattle.editor.specs.Words.{List, [], ◌∷◌, Bool, not, ℕ, eqb, Key, Insert, Quote, Newline, Tab}
+use Rattle.std.specs.Prelude.{List, [], ◌∷◌, Bool, not, ℕ, eqb}
+use Rattle.editor.specs.Words.{Key, Insert, Quote, Newline, Tab}
 use Rattle.gap.specs.Tables.Sentence.{Sentence, sentence}
 use Rattle.gap.specs.Tables.Written.{is_bytes, is_store, is_doc}
 use Rattle.editor.specs.Rules.Plain.{opening}

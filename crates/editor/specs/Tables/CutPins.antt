@@ -1,5 +1,6 @@
 -- What request M-101 says of CUT and PASTE and of the held text, each sentence with its examples: `|` is the cursor, `^` the mark.
-use Rattle.editor.specs.Words.{List, [], ◌∷◌, ◌++◌, Character, Word, Document, Insert, Recall, Quote, Find, Mark, Cut, Paste}
+use Rattle.std.specs.Prelude.{List, [], ◌∷◌, ◌++◌}
+use Rattle.editor.specs.Words.{Character, Word, Document, Insert, Recall, Quote, Find, Mark, Cut, Paste}
 use Rattle.editor.specs.Words.{Left, Right, Main, Quoted}
 use Rattle.gap.specs.Tables.Sentence.{Sentence, sentence}
 use Rattle.editor.specs.Tables.KeyExamples.{KeyExample, Refused, Goes, Rings, Recalls, Quotation, ItsRecalls, Pattern, Replacement, In}

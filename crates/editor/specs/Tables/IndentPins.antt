@@ -1,5 +1,6 @@
 -- What request M-105 says of NEWLINE and TAB, each sentence with its examples: `|` is the cursor, `^` the mark. Then the formula of 001.
-use Rattle.editor.specs.Words.{List, [], ◌∷◌, ◌++◌, Bool, not, ◌&&◌, cond, ℕ, zero, suc, ◌-◌, eqb, length, Left, Search, Character}
+use Rattle.std.specs.Prelude.{List, [], ◌∷◌, ◌++◌, Bool, not, ◌&&◌, cond, ℕ, zero, suc, ◌-◌, eqb, length}
+use Rattle.editor.specs.Words.{Left, Search, Character}
 use Rattle.editor.specs.Words.{Insert, Recall, Quote, Newline, Tab, Quoted}
 use Rattle.gap.specs.declared.Search.TheVariants as found
 use Rattle.gap.specs.Rules.Strings.{bytes}

@@ -1,9 +1,9 @@
 -- Examples of keys: the cursor stands at the bar, the keys are pressed, and facts are stated of the last one.
 -- proofs/Theorems/Pins computes them on the plain state, and the window layer's Pins on bytes.
-use Rattle.std.specs.Prelude.{map}
+use Rattle.std.specs.Prelude.{map, List, [], ◌∷◌, ◌++◌, Bool, true, false, ◌&&◌, cond, ℕ, suc, ◌-◌, eqb, length}
 use Prim.Native.Char.{code}
 use Prim.Native.String.{String}
-use Rattle.editor.specs.Words.{List, [], ◌∷◌, ◌++◌, Bool, true, false, ◌&&◌, cond, ℕ, suc, ◌-◌, eqb, length, Left, Right, Place, Character}
+use Rattle.editor.specs.Words.{Left, Right, Place, Character}
 use Rattle.editor.specs.Words.{Move, Delete, Key, Insert, Function, Quote, Mark, Mode, Main, Quoted, Marking, Unmarked, At, Report}
 use Rattle.gap.specs.Rules.Strings.{bytes}
 use Rattle.gap.specs.Rules.Doc.{Doc, empty, times}

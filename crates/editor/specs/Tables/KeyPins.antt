@@ -1,5 +1,6 @@
 -- What document 01 says of insertions, places, moves, deletions and RECALL, each sentence with its examples.
-use Rattle.editor.specs.Words.{List, [], ◌∷◌, Character, Word, LineBeginning, LineEnding, Document, Insert, Recall, Quote}
+use Rattle.std.specs.Prelude.{List, [], ◌∷◌}
+use Rattle.editor.specs.Words.{Character, Word, LineBeginning, LineEnding, Document, Insert, Recall, Quote}
 use Rattle.gap.specs.Tables.Sentence.{Sentence, sentence}
 use Rattle.editor.specs.Tables.KeyExamples.{KeyExample, Refused, Goes, Crosses, Rings, Text, Recalls, example, example_in}
 use Rattle.editor.specs.Tables.KeyExamples.{move_left, move_right, delete_left, delete_right, typed}

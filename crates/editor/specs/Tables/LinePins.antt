@@ -1,5 +1,6 @@
 -- What request M-106 says of long lines, on documents of one letter, for so long a line cannot be read.
-use Rattle.editor.specs.Words.{List, [], ◌∷◌, Bool, not, ℕ, eqb, length, Quoted, At, Character, Document}
+use Rattle.std.specs.Prelude.{List, [], ◌∷◌, Bool, not, ℕ, eqb, length}
+use Rattle.editor.specs.Words.{Quoted, At, Character, Document}
 use Rattle.editor.specs.Words.{Key, Insert, Recall, Quote, Replace, Mark, Cut, Paste, Newline, Tab}
 use Rattle.gap.specs.Rules.Sequence.{zeros}
 use Rattle.gap.specs.Rules.Doc.{content, times}

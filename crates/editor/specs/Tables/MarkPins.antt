@@ -1,5 +1,6 @@
 -- What request M-101 says of the mark, each sentence with its examples: `|` is the cursor, `^` the mark, a position between bytes.
-use Rattle.editor.specs.Words.{List, [], ◌∷◌, ◌++◌, Bool, ◌&&◌, ℕ, eqb, Left, Right, Character, Word, LineEnding, Document}
+use Rattle.std.specs.Prelude.{List, [], ◌∷◌, ◌++◌, Bool, ◌&&◌, ℕ, eqb}
+use Rattle.editor.specs.Words.{Left, Right, Character, Word, LineEnding, Document}
 use Rattle.editor.specs.Words.{Key, Insert, Recall, Quote, Find, Replace, Mark, Cut, Paste, Main, Quoted, Marking, Unmarked, At}
 use Prim.Native.String.{String}
 use Rattle.gap.specs.Tables.Sentence.{Sentence, sentence}

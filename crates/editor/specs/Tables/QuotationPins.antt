@@ -1,5 +1,6 @@
 -- What document 01 says of QUOTE, FIND, UPFIND and REPLACE, each sentence with its examples.
-use Rattle.editor.specs.Words.{List, [], ◌∷◌, ◌++◌, Left, Right, Character, Word, Insert, Recall, Quote, Find, Replace, Main, Quoted}
+use Rattle.std.specs.Prelude.{List, [], ◌∷◌, ◌++◌}
+use Rattle.editor.specs.Words.{Left, Right, Character, Word, Insert, Recall, Quote, Find, Replace, Main, Quoted}
 use Rattle.gap.specs.Tables.Sentence.{Sentence, sentence}
 use Rattle.editor.specs.Tables.KeyExamples.{KeyExample, Refused, Goes, Rings, Text, Recalls, Quotation, ItsRecalls, Pattern, Replacement, In}
 use Rattle.editor.specs.Tables.KeyExamples.{example, example_in, move_left, delete_left, delete_right, quoting}

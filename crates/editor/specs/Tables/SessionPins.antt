@@ -1,7 +1,8 @@
 -- What document 01 and request M-101 say of lengths, stores and sessions, on stores so small that they can be read: T is 6, and a quarter
 -- has 4 bytes. A free byte is written `_`.
+use Rattle.std.specs.Prelude.{List, [], ◌∷◌, Bool, not, ◌&&◌, ℕ, eqb}
 use Prim.Native.String.{String}
-use Rattle.editor.specs.Words.{List, [], ◌∷◌, Bool, not, ◌&&◌, ℕ, eqb, Mode, Main, Quoted, Sizes, Lengths}
+use Rattle.editor.specs.Words.{Mode, Main, Quoted, Sizes, Lengths}
 use Rattle.editor.specs.Words.{Marking, Unmarked, At}
 use Rattle.editor.specs.Words.{Move, Right, Character, Insert, Function, Quote}
 use Rattle.gap.specs.Rules.Sequence.{same_bytes}

@@ -1,5 +1,5 @@
 -- How the promise of the conversion speaks: each quarter is put into a longer one.
-use Rattle.editor.specs.Words.{List, ◌++◌, ℕ, ◌-◌, length}
+use Rattle.std.specs.Prelude.{List, ◌++◌, ℕ, ◌-◌, length}
 use Rattle.gap.specs.Rules.Sequence.{patch, zeros}
 use Rattle.gap.specs.Rules.Doc.{Doc}
 use Rattle.gap.specs.Rules.Layout.{gapped, ungap}

@@ -1,6 +1,6 @@
 -- How the promises of the functions about the mark speak: the record with another mark or held text, and what a key changes, in numbers.
-use Rattle.std.specs.Prelude.{◌≡◌, ◌≤◌}
-use Rattle.editor.specs.Words.{Bool, true, false, cond, ℕ, ◌+◌, ◌-◌, eqb, Direction, Left, Right, Mode, Main, Quoted, Marking, Move, Delete}
+use Rattle.std.specs.Prelude.{◌≡◌, ◌≤◌, Bool, true, false, cond, ℕ, ◌+◌, ◌-◌, eqb}
+use Rattle.editor.specs.Words.{Direction, Left, Right, Mode, Main, Quoted, Marking, Move, Delete}
 use Rattle.editor.specs.Words.{Key, Insert, Function, Recall, Quote, Find, Replace, Mark, Cut, Paste, Newline, Tab}
 use Rattle.editor.specs.Words.{Sizes, Lengths, Report, Exchange}
 use Rattle.editor.specs.declared.SideReply.{SideReply}

@@ -1,6 +1,6 @@
 -- What stands beside the cursor, for every text: theorems say the places with it. (01, plain editor: places.)
-use Rattle.std.specs.Prelude.{◌⊎◌, ◌≢◌}
-use Rattle.editor.specs.Words.{List, [], ◌∷◌, ◌++◌, Bool, ◌||◌, ℕ, eqb, Neighbour}
+use Rattle.std.specs.Prelude.{◌⊎◌, ◌≢◌, List, [], ◌∷◌, ◌++◌, Bool, ◌||◌, ℕ, eqb}
+use Rattle.editor.specs.Words.{Neighbour}
 use Rattle.editor.specs.declared.Neighbour.TheVariants.{Nothing, Space, Newline, Other}
 use Rattle.gap.specs.Rules.Doc.{Doc}
 use Rattle.gap.specs.Rules.Lines.{newline}

@@ -1,6 +1,6 @@
 -- How the promises of this layer's functions speak: what they ask of lent stores, and their outcome as one value.
-use Rattle.std.specs.Prelude.{◌≡◌, ◌≤◌}
-use Rattle.editor.specs.Words.{List, [], ◌∷◌, Bool, true, cond, ℕ, ◌+◌, ◌-◌, ◌*◌, eqb, leb, length, take, Direction, Left, Right, Search}
+use Rattle.std.specs.Prelude.{◌≡◌, ◌≤◌, List, [], ◌∷◌, Bool, true, cond, ℕ, ◌+◌, ◌-◌, ◌*◌, eqb, leb, length, take}
+use Rattle.editor.specs.Words.{Direction, Left, Right, Search}
 use Rattle.editor.specs.Words.{Mode, Main, Quoted, Sizes, Lengths, Report}
 use Rattle.gap.specs.declared.Search.TheVariants as found
 use Rattle.gap.specs.Rules.Sequence.{patch, zeros}

@@ -1,5 +1,5 @@
 -- The words in which theorems speak of RECALL after another key, on the side that the mode says. (01, recall text. 02, M-103.)
-use Rattle.editor.specs.Words.{◌++◌}
+use Rattle.std.specs.Prelude.{◌++◌}
 use Rattle.gap.specs.Rules.Doc.{Doc}
 use Rattle.editor.specs.Rules.Plain.{Plain}
 use Rattle.editor.specs.Rules.Marks.{putting, mark_changed}

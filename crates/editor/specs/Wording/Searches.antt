@@ -1,6 +1,6 @@
 -- How the promises of a search's parts speak: which matches they look at, and where a match may begin.
-use Rattle.std.specs.Prelude.{◌≡◌, ◌≤◌, ◌<◌, get_or}
-use Rattle.editor.specs.Words.{List, Bool, ◌&&◌, ℕ, ◌+◌, ◌-◌, eqb, length, drop, Direction, Left, Right}
+use Rattle.std.specs.Prelude.{◌≡◌, ◌≤◌, ◌<◌, get_or, List, Bool, ◌&&◌, ℕ, ◌+◌, ◌-◌, eqb, length, drop}
+use Rattle.editor.specs.Words.{Direction, Left, Right}
 use Rattle.gap.specs.Rules.Sequence.{begins}
 use Rattle.gap.specs.Rules.Doc.{Doc}
 

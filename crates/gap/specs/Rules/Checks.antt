@@ -1,6 +1,5 @@
 -- Checks in order: the first that fails refuses with its number. (01, refusals: the first that applies is given.)
-use Rattle.std.specs.Prelude.{◌≡◌}
-use Rattle.gap.specs.Words.{List, [], ◌∷◌, Bool, true, cond, ℕ}
+use Rattle.std.specs.Prelude.{◌≡◌, List, [], ◌∷◌, Bool, true, cond, ℕ}
 
 -- A check: the number that is given where it fails, and whether it passes.
 pub data Check : Type 0 where

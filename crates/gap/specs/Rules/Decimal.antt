@@ -1,6 +1,6 @@
 -- Decimal numbers as they are read and as they are written. (01, the bench program: numbers; 02, M-100: numbers.)
-use Rattle.gap.specs.Words.{List, [], ◌∷◌, ◌++◌, Bool, not, ◌&&◌, ◌||◌, cond, ℕ, zero, suc, ◌+◌, ◌-◌, ◌*◌, ◌/◌, ◌%◌}
-use Rattle.gap.specs.Words.{eqb, leb, ltb, length, get_or, Number, Read, Unreadable}
+use Rattle.std.specs.Prelude.{List, [], ◌∷◌, ◌++◌, Bool, not, ◌&&◌, ◌||◌, cond, ℕ, zero, suc, ◌+◌, ◌-◌, ◌*◌, ◌/◌, ◌%◌, eqb, leb, ltb, length, get_or}
+use Rattle.gap.specs.Words.{Number, Read, Unreadable}
 use Rattle.gap.specs.Rules.Sequence.{every}
 
 -- `0` to `9`, and what each is worth.

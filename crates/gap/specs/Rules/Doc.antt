@@ -1,5 +1,6 @@
 -- The plain document and its single steps. (01, plain editor: document; 001, section 1.1.)
-use Rattle.gap.specs.Words.{List, [], ◌++◌, ℕ, zero, suc, ◌-◌, length, take, drop, Direction, Left, Right}
+use Rattle.std.specs.Prelude.{List, [], ◌++◌, ℕ, zero, suc, ◌-◌, length, take, drop}
+use Rattle.gap.specs.Words.{Direction, Left, Right}
 use Rattle.gap.specs.Rules.Sequence.{but_last, last_of}
 
 -- A document is what stands before the cursor and what stands behind it. Recall pairs and the replacement have this shape too.

@@ -1,5 +1,5 @@
 -- Lines by their places, and lines that have a word and a number. (01, the bench program.)
-use Rattle.gap.specs.Words.{List, [], ◌∷◌, ◌++◌, Bool, cond, ℕ, suc, ◌+◌, eqb, ltb, length, take, drop}
+use Rattle.std.specs.Prelude.{List, [], ◌∷◌, ◌++◌, Bool, cond, ℕ, suc, ◌+◌, eqb, ltb, length, take, drop}
 use Rattle.gap.specs.Words.{Number, Unreadable}
 use Rattle.gap.specs.Rules.Sequence.{begins}
 use Rattle.gap.specs.Rules.Lines.{newline, newlines}

@@ -1,5 +1,5 @@
 -- Spaces at the beginning of a line. (02, M-105: NEWLINE.)
-use Rattle.gap.specs.Words.{List, [], ◌∷◌, cond, ℕ, suc, ◌-◌, eqb, length, drop, replicate}
+use Rattle.std.specs.Prelude.{List, [], ◌∷◌, cond, ℕ, suc, ◌-◌, eqb, length, drop, replicate}
 use Rattle.gap.specs.Rules.Lines.{since}
 
 abbrev pub space : ℕ

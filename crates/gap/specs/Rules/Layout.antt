@@ -1,6 +1,5 @@
 -- How bytes hold texts: gap stores and pair stores. (01, what the core holds: below the table of stores.)
-use Rattle.std.specs.Prelude.{◌≡◌, ◌≤◌}
-use Rattle.gap.specs.Words.{List, ◌++◌, Bool, true, ◌&&◌, ◌||◌, ℕ, ◌+◌, ◌-◌, eqb, leb, length, take, drop}
+use Rattle.std.specs.Prelude.{◌≡◌, ◌≤◌, List, ◌++◌, Bool, true, ◌&&◌, ◌||◌, ℕ, ◌+◌, ◌-◌, eqb, leb, length, take, drop}
 use Rattle.gap.specs.Rules.Sequence.{every, part, zeros}
 use Rattle.gap.specs.Rules.Doc.{Doc, content}
 use Rattle.gap.specs.Rules.Lines.{newline}

@@ -1,5 +1,6 @@
 -- Lines against a limit of bytes. (02, M-106.)
-use Rattle.gap.specs.Words.{List, [], ◌∷◌, Bool, true, ◌&&◌, ◌||◌, ℕ, ◌-◌, eqb, leb, ltb, length, get_or, Search}
+use Rattle.std.specs.Prelude.{List, [], ◌∷◌, Bool, true, ◌&&◌, ◌||◌, ℕ, ◌-◌, eqb, leb, ltb, length, get_or}
+use Rattle.gap.specs.Words.{Search}
 use Rattle.gap.specs.Rules.Nearest.{nearest}
 use Rattle.gap.specs.Rules.Lines.{newline, lines}
 use Rattle.gap.specs.Rules.Fields.{line_at}

@@ -1,6 +1,5 @@
 -- Newlines and lines of a text. (01, the window: lines, cursor.)
-use Rattle.std.specs.Prelude.{◌≡◌, ◌≤◌}
-use Rattle.gap.specs.Words.{List, [], ◌∷◌, true, not, cond, ℕ, suc, ◌-◌, eqb, length}
+use Rattle.std.specs.Prelude.{◌≡◌, ◌≤◌, List, [], ◌∷◌, true, not, cond, ℕ, suc, ◌-◌, eqb, length}
 use Rattle.gap.specs.Rules.Sequence.{every, part}
 
 -- The byte between two lines.

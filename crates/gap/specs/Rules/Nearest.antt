@@ -1,6 +1,6 @@
 -- The nearest number that passes a test, and with it the distance to a place.
-use Rattle.std.specs.Prelude.{◌≡◌, ◌≤◌, ◌<◌}
-use Rattle.gap.specs.Words.{Bool, true, false, cond, ℕ, zero, suc, Direction, Search, Reached, Nowhere}
+use Rattle.std.specs.Prelude.{◌≡◌, ◌≤◌, ◌<◌, Bool, true, false, cond, ℕ, zero, suc}
+use Rattle.gap.specs.Words.{Direction, Search, Reached, Nowhere}
 use Rattle.gap.specs.Rules.Doc.{Doc, move, times, room}
 
 -- Of the n numbers from k on, the least that passes.

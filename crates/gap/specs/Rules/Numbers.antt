@@ -1,5 +1,5 @@
 -- Tests as numbers.
-use Rattle.gap.specs.Words.{Bool, true, false, ℕ}
+use Rattle.std.specs.Prelude.{Bool, true, false, ℕ}
 
 -- 1 for yes and 0 for no, as the bell and the like are told in numbers.
 abbrev pub bit : Bool → ℕ

@@ -1,6 +1,5 @@
 -- Sequences of bytes: the few notions beyond length, take, drop and append that the rules speak with.
-use Rattle.gap.specs.Words.{List, [], ◌∷◌, ◌++◌, Bool, true, false, ◌&&◌, ℕ, zero, suc, ◌-◌}
-use Rattle.gap.specs.Words.{eqb, length, take, drop, replicate}
+use Rattle.std.specs.Prelude.{List, [], ◌∷◌, ◌++◌, Bool, true, false, ◌&&◌, ℕ, zero, suc, ◌-◌, eqb, length, take, drop, replicate}
 
 -- A sequence without its last byte, and that byte alone; of nothing, nothing. (001, section 1.1: head, last.)
 abbrev pub but_last : List ℕ → List ℕ

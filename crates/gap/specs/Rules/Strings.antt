@@ -1,7 +1,7 @@
 -- Words of the documents, as bytes.
+use Rattle.std.specs.Prelude.{List, [], ◌∷◌, ℕ}
 use Prim.Native.Char.{code}
 use Prim.Native.String.{String}
-use Rattle.gap.specs.Words.{List, [], ◌∷◌, ℕ}
 
 unfoldable pub bytes : String → List ℕ
 bytes String.[] = []

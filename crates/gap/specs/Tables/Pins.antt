@@ -1,5 +1,6 @@
 -- The definitions of this layer on small texts. proofs/Theorems/Pins computes them all.
-use Rattle.gap.specs.Words.{List, [], ◌∷◌, ◌++◌, Bool, true, false, not, ◌&&◌, ℕ, suc, eqb, leb, length, Left, Right}
+use Rattle.std.specs.Prelude.{List, [], ◌∷◌, ◌++◌, Bool, true, false, not, ◌&&◌, ℕ, suc, eqb, leb, length}
+use Rattle.gap.specs.Words.{Left, Right}
 use Rattle.gap.specs.Rules.Sequence.{but_last, last_of, every, same_bytes, begins, part, patch, zeros, counted}
 use Rattle.gap.specs.Rules.Strings.{bytes}
 use Rattle.gap.specs.Rules.Numbers.{bit}

@@ -1,7 +1,7 @@
 -- Sentences of the documents, each with examples that its definition must give: a definition that says something else fails one of
 -- them, even where the code is changed with it.
+use Rattle.std.specs.Prelude.{List, [], ◌∷◌, Bool, true, ◌&&◌, cond}
 use Prim.Native.String.{String}
-use Rattle.gap.specs.Words.{List, [], ◌∷◌, Bool, true, ◌&&◌, cond}
 
 -- A sentence in our words, and its examples.
 pub record Sentence (A : Type 0) : Type 0 where

@@ -1,6 +1,6 @@
 -- How the tables write documents and stores, and how they compare what a definition gives.
+use Rattle.std.specs.Prelude.{List, [], ◌∷◌, ◌++◌, Bool, true, false, ◌&&◌, cond, ℕ, eqb}
 use Prim.Native.String.{String}
-use Rattle.gap.specs.Words.{List, [], ◌∷◌, ◌++◌, Bool, true, false, ◌&&◌, cond, ℕ, eqb}
 use Rattle.gap.specs.Words.{Search, Reached, Nowhere, Number, Read, Unreadable}
 use Rattle.gap.specs.Rules.Sequence.{same_bytes}
 use Rattle.gap.specs.Rules.Strings.{bytes}

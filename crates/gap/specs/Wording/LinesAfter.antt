@@ -1,5 +1,5 @@
 -- How the promises about long lines speak: of a text that goes on with a line begun before it.
-use Rattle.gap.specs.Words.{List, Bool, ◌&&◌, ℕ, ◌+◌, leb, length}
+use Rattle.std.specs.Prelude.{List, Bool, ◌&&◌, ℕ, ◌+◌, leb, length}
 use Rattle.gap.specs.Rules.Fields.{line_of}
 use Rattle.gap.specs.Rules.LineLimits.{lines_fit}
 

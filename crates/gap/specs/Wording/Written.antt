@@ -1,6 +1,5 @@
 -- How the promises of writers speak: a run put into a lent store, and the place behind it.
-use Rattle.std.specs.Prelude.{◌≡◌, ◌≤◌}
-use Rattle.gap.specs.Words.{List, ℕ, ◌+◌, length}
+use Rattle.std.specs.Prelude.{◌≡◌, ◌≤◌, List, ℕ, ◌+◌, length}
 use Rattle.gap.specs.Rules.Sequence.{patch}
 
 -- The run stands in the store from place `at` on, whatever else the store held is as it was, and `next` is the place behind the run.

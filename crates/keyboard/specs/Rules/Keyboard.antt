@@ -1,9 +1,10 @@
 -- The bytes of each key, and the key that bytes received so far give. (02, M-107.)
+use Rattle.std.specs.Prelude.{List, [], ◌∷◌, cond, ℕ, eqb, length}
 use Prim.Native.String.{String}
 use Rattle.gap.specs.Rules.Sequence.{same_bytes}
 use Rattle.gap.specs.Rules.Strings.{bytes}
 use Rattle.gap.specs.Rules.Layout.{printable}
-use Rattle.keyboard.specs.Words.{List, [], ◌∷◌, cond, ℕ, eqb, length, Left, Right, Move, Delete}
+use Rattle.keyboard.specs.Words.{Left, Right, Move, Delete}
 use Rattle.keyboard.specs.Words.{Character, Word, LineBeginning, LineEnding, Document, Received, Pressed, More, Refused}
 use Rattle.keyboard.specs.Words.{Key, Insert, Function, Recall, Quote, Find, Replace, Mark, Cut, Paste, Newline, Tab}
 use Rattle.keyboard.specs.Rules.Refusals.{SEQUENCE}

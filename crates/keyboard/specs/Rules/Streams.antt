@@ -1,5 +1,6 @@
 -- A stream of bytes as keys and refusals, whole and in pieces. (02, M-107: a stream has one reading.)
-use Rattle.keyboard.specs.Words.{List, [], ◌∷◌, ◌++◌, ℕ, zero, suc, length, drop, Key, Received, Pressed, More, Refused}
+use Rattle.std.specs.Prelude.{List, [], ◌∷◌, ◌++◌, ℕ, zero, suc, length, drop}
+use Rattle.keyboard.specs.Words.{Key, Received, Pressed, More, Refused}
 use Rattle.keyboard.specs.Rules.Keyboard.{received}
 
 -- What a stream is read as: keys, and refusals by their number.

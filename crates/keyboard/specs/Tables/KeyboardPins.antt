@@ -1,8 +1,9 @@
 -- What request M-107 says, each sentence with its examples, and the letters of docs/KEYBOARD.md.
+use Rattle.std.specs.Prelude.{List, [], ◌∷◌, ◌++◌, map, ℕ}
 use Prim.Native.String.{String}
 use Rattle.gap.specs.Rules.Sequence.{counted}
 use Rattle.gap.specs.Tables.Sentence.{Sentence, sentence}
-use Rattle.keyboard.specs.Words.{List, [], ◌∷◌, ◌++◌, map, ℕ, Left, Right, Move, Delete, Received, Pressed, More, Refused}
+use Rattle.keyboard.specs.Words.{Left, Right, Move, Delete, Received, Pressed, More, Refused}
 use Rattle.keyboard.specs.Words.{Character, Word, LineBeginning, LineEnding, Document}
 use Rattle.keyboard.specs.Words.{Key, Insert, Function, Recall, Quote, Find, Replace, Mark, Cut, Paste, Newline, Tab}
 use Rattle.keyboard.specs.Rules.Keyboard.{escaped, arrow_keys, letter_keys, received}

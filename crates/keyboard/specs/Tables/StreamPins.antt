@@ -1,5 +1,6 @@
 -- Streams and their readings, whole and in pieces. (02, M-107.)
-use Rattle.keyboard.specs.Words.{List, [], ◌∷◌, ℕ, Right, Move, Character, Insert, Function, Quote}
+use Rattle.std.specs.Prelude.{List, [], ◌∷◌, ℕ}
+use Rattle.keyboard.specs.Words.{Right, Move, Character, Insert, Function, Quote}
 use Rattle.keyboard.specs.Rules.Streams.{Item, a_key, a_refusal, Reading}
 
 -- Pieces, and what they are read as.

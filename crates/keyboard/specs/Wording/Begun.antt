@@ -1,7 +1,7 @@
 -- The words in which theorems say what bytes received so far must give, from the table of the keys' bytes alone. (02, M-107.)
-use Rattle.std.specs.Prelude.{◌≡◌, ◌≢◌}
+use Rattle.std.specs.Prelude.{◌≡◌, ◌≢◌, List, [], ◌∷◌, ◌++◌, Bool, true, ℕ, suc, length}
 use Rattle.gap.specs.Rules.Layout.{allowed}
-use Rattle.keyboard.specs.Words.{List, [], ◌∷◌, ◌++◌, Bool, true, ℕ, suc, length, Received, Pressed, More, Refused}
+use Rattle.keyboard.specs.Words.{Received, Pressed, More, Refused}
 use Rattle.keyboard.specs.Words.{Key, Insert, Function, Recall, Quote, Find, Replace, Mark, Cut, Paste, Newline, Tab}
 use Rattle.keyboard.specs.Rules.Refusals.{SEQUENCE}
 use Rattle.keyboard.specs.Rules.Keyboard.{bytes_of}

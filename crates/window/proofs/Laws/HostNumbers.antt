@@ -1,9 +1,10 @@
 -- What the host is given, in numbers, is what the core's calls give.
+use Rattle.std.specs.Prelude.{Bool, cond, ℕ}
 use mathlib.Core.Path.{◌≡◌, ap, ◌∙◌}
 use Prim.Native.Nat.{◌≤◌, ◌<◌}
 use borrow.Author.Tests.{le-leb, lt-leb}
 use Rattle.editor.specs.Rules.Refusals.{SIZE, SESSION}
-use Rattle.window.specs.Words.{Bool, cond, ℕ, Session, Key}
+use Rattle.window.specs.Words.{Session, Key}
 use Rattle.window.specs.declared.Reply.{Reply}
 use Rattle.window.specs.declared.host.Record.{Record}
 use Rattle.window.specs.declared.host.HostReply.{HostReply}

@@ -1,5 +1,6 @@
 -- MARK, CUT and PASTE from what the calls promise (02, M-101): in QUOTED all three get KEY; in MAIN, MARK and CUT are always accepted; CUT, then
 -- PASTE at once, restores text and cursor.
+use Rattle.std.specs.Prelude.{true}
 use mathlib.Core.Path.{◌≡◌, refl, sym, ap, ap₂, subst⁻¹, ◌∙◌}
 use mathlib.Core.Logic.{◌↔◌}
 use Prim.Native.Nat.{ℕ}
@@ -19,7 +20,7 @@ use Rattle.editor.proofs.Laws.LongLines.{readable-within}
 use Rattle.editor.proofs.Laws.Outcomes.{accepted}
 use Rattle.editor.proofs.Theorems.Refusals.{key-unsound}
 use Rattle.editor.proofs.Theorems.Cuts.{leaving, cut-deletes, cut-then-paste}
-use Rattle.window.specs.Words.{true, Main, Quoted, At, Session, Key, Mark, Cut, Paste}
+use Rattle.window.specs.Words.{Main, Quoted, At, Session, Key, Mark, Cut, Paste}
 use Rattle.window.specs.Rules.Core.{Lent, Called, T, held, turned_down, finished, shown}
 use Rattle.window.specs.Wording.Promise.{KeyPromise}
 use Rattle.window.specs.Wording.Demands.{OnSession, Carried}

@@ -1,6 +1,7 @@
 -- Request M-109: the conversion of an old session, as a total function on any record, any old stores and any new side store.
+use Rattle.std.specs.Prelude.{List, [], ◌∷◌, Bool, ◌&&◌, ℕ, ◌*◌, eqb, length}
 use Rattle.gap.specs.Rules.Checks.{Check, check, unless}
-use Rattle.window.specs.Words.{List, [], ◌∷◌, Bool, ◌&&◌, ℕ, ◌*◌, eqb, length, Session, Answer}
+use Rattle.window.specs.Words.{Session, Answer}
 use Rattle.editor.specs.Rules.Refusals.{SIZE, SESSION}
 use Rattle.editor.specs.Rules.Bytes.{Stores, quarter, sized}
 use Rattle.editor.specs.Rules.Conversion.{old_quarter, converted_side}

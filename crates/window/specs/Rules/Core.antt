@@ -1,6 +1,6 @@
 -- The core: opening and the key call as total functions on any record and any five stores.
+use Rattle.std.specs.Prelude.{List, [], ◌∷◌, Bool, not, ◌&&◌, ℕ, ◌-◌, ◌*◌, eqb, leb, length, take, get_or}
 use Rattle.gap.specs.Rules.Checks.{check, unless}
-use Rattle.window.specs.Words.{List, [], ◌∷◌, Bool, not, ◌&&◌, ℕ, ◌-◌, ◌*◌, eqb, leb, length, take, get_or}
 use Rattle.window.specs.Words.{Key, Search, Reached, Nowhere, Report, Frame, Session, Answer}
 use Rattle.gap.specs.Rules.Doc.{Doc}
 use Rattle.gap.specs.Rules.Nearest.{nearest}

@@ -1,5 +1,6 @@
 -- The host's boundary: record, key and answer as numbers. (DECISIONS D1 to D4.)
-use Rattle.window.specs.Words.{Bool, true, ◌&&◌, ◌||◌, cond, ℕ, eqb, leb, Marking, Unmarked, At}
+use Rattle.std.specs.Prelude.{Bool, true, ◌&&◌, ◌||◌, cond, ℕ, eqb, leb}
+use Rattle.window.specs.Words.{Marking, Unmarked, At}
 use Rattle.window.specs.Words.{Left, Right, Direction, Action, Move, Delete, Mode, Main, Quoted}
 use Rattle.window.specs.Words.{Place, Character, Word, LineBeginning, LineEnding, Document}
 use Rattle.window.specs.Words.{Session, Answer, Key, Insert, Function, Recall, Quote, Find, Replace, Mark, Cut, Paste, Newline, Tab}

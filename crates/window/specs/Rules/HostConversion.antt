@@ -1,6 +1,6 @@
 -- Request M-109: the conversion at the host's boundary, in numbers.
+use Rattle.std.specs.Prelude.{List, [], ◌∷◌, Bool, ◌&&◌, cond, ℕ, leb}
 use Rattle.gap.specs.Rules.Checks.{Check, check}
-use Rattle.window.specs.Words.{List, [], ◌∷◌, Bool, ◌&&◌, cond, ℕ, leb}
 use Rattle.editor.specs.Rules.Refusals.{SIZE, SESSION}
 use Rattle.editor.specs.Rules.Bytes.{Stores}
 use Rattle.window.specs.declared.host.Record.{Record}

@@ -1,6 +1,7 @@
 -- A host at work: opening and keys in numbers, record and stores handed on as they came back, and its terminal. These are the benches of
 -- Terminal and Machine, with the host's calls in place of the core's.
-use Rattle.window.specs.Words.{List, [], ◌∷◌, cond, ℕ, take, Key}
+use Rattle.std.specs.Prelude.{List, [], ◌∷◌, cond, ℕ, take}
+use Rattle.window.specs.Words.{Key}
 use Rattle.window.specs.Rules.Core.{Lent}
 use Rattle.window.specs.Rules.Terminal.{repaint}
 use Rattle.window.specs.Rules.Sending.{SendOutcome, sending}

@@ -1,6 +1,6 @@
 -- A simple terminal as a machine over bytes, and a bench with such a terminal at the end of a line. (02, M-100: a simple terminal.)
-use Rattle.std.specs.Prelude.{◌≡◌, ◌≢◌, ◌≤◌}
-use Rattle.window.specs.Words.{List, [], ◌∷◌, Bool, ◌&&◌, cond, ℕ, suc, ◌+◌, ◌-◌, ◌*◌, eqb, leb, ltb, length, take, set, Key}
+use Rattle.std.specs.Prelude.{◌≡◌, ◌≢◌, ◌≤◌, List, [], ◌∷◌, Bool, ◌&&◌, cond, ℕ, suc, ◌+◌, ◌-◌, ◌*◌, eqb, leb, ltb, length, take, set}
+use Rattle.window.specs.Words.{Key}
 use Rattle.gap.specs.Rules.Decimal.{digit, worth}
 use Rattle.gap.specs.Rules.Layout.{printable}
 use Rattle.editor.specs.Rules.Refusals.{ROOM}

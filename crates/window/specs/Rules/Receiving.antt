@@ -1,5 +1,6 @@
 -- A line whose keys come as bytes from a terminal: each key is pressed, and painted, as soon as it is there. (02, M-107.)
-use Rattle.window.specs.Words.{List, [], ℕ, Key}
+use Rattle.std.specs.Prelude.{List, [], ℕ}
+use Rattle.window.specs.Words.{Key}
 use Rattle.keyboard.specs.declared.Received.{Received}
 use Rattle.keyboard.specs.declared.Received.TheVariants.{Pressed, More, Refused}
 use Rattle.window.specs.declared.host_receive.Heard.{Heard}

@@ -1,6 +1,7 @@
 -- The checks of each call, in order: theorems say with them when each number is given. (01, refusals: order; 02, M-100, M-106: refusals.)
+use Rattle.std.specs.Prelude.{List, [], ◌∷◌, ◌&&◌, ℕ, leb, length, take}
 use Rattle.gap.specs.Rules.Checks.{Check, check}
-use Rattle.window.specs.Words.{List, [], ◌∷◌, ◌&&◌, ℕ, leb, length, take, Key, Session}
+use Rattle.window.specs.Words.{Key, Session}
 use Rattle.gap.specs.Rules.Sequence.{every}
 use Rattle.gap.specs.Rules.Layout.{allowed, printable}
 use Rattle.gap.specs.Rules.LineLimits.{lines_fit}

@@ -1,6 +1,6 @@
 -- Named rows. (01, the window: named rows.)
-use Rattle.std.specs.Prelude.{◌≡◌, ◌↔◌, ◌≢◌, ◌≤◌}
-use Rattle.window.specs.Words.{List, Bool, not, ℕ, suc, ◌-◌, ◌*◌, Search, Reached, Nowhere}
+use Rattle.std.specs.Prelude.{◌≡◌, ◌↔◌, ◌≢◌, ◌≤◌, List, Bool, not, ℕ, suc, ◌-◌, ◌*◌}
+use Rattle.window.specs.Words.{Search, Reached, Nowhere}
 use Rattle.gap.specs.Rules.Sequence.{same_bytes, part}
 use Rattle.gap.specs.Rules.Nearest.{nearest}
 

@@ -1,6 +1,6 @@
 -- The routine that writes these bytes into a lent buffer, as a total function on anything it is given. (02, M-100: refusals.)
-use Rattle.std.specs.Prelude.{◌≡◌}
-use Rattle.window.specs.Words.{List, Bool, not, ◌&&◌, ◌||◌, cond, ℕ, ◌*◌, eqb, leb, length, take, drop, get_or, Search, Reached, Nowhere}
+use Rattle.std.specs.Prelude.{◌≡◌, List, Bool, not, ◌&&◌, ◌||◌, cond, ℕ, ◌*◌, eqb, leb, length, take, drop, get_or}
+use Rattle.window.specs.Words.{Search, Reached, Nowhere}
 use Rattle.gap.specs.Rules.Sequence.{patch}
 use Rattle.gap.specs.Rules.Nearest.{nearest}
 use Rattle.gap.specs.Rules.Layout.{printable}

@@ -1,5 +1,5 @@
 -- The bytes that bring a terminal up to date, in sequences of ECMA-48. (02, M-100.)
-use Rattle.window.specs.Words.{List, [], ◌∷◌, ◌++◌, map, cond, ℕ, suc, ◌+◌, ◌-◌, eqb, ltb}
+use Rattle.std.specs.Prelude.{List, [], ◌∷◌, ◌++◌, map, cond, ℕ, suc, ◌+◌, ◌-◌, eqb, ltb}
 use Rattle.gap.specs.Rules.Sequence.{counted}
 use Rattle.gap.specs.Rules.Decimal.{decimal}
 use Rattle.window.specs.Rules.Window.{joined}

@@ -1,6 +1,6 @@
 -- The terminal of the third demand, and the plain document that it must show.
-use Rattle.std.specs.Prelude.{◌≡◌, ◌≤◌}
-use Rattle.window.specs.Words.{List, [], ◌∷◌, ◌++◌, true, cond, ℕ, suc, ◌-◌, ◌*◌, eqb, take, drop, Key, Frame, Session}
+use Rattle.std.specs.Prelude.{◌≡◌, ◌≤◌, List, [], ◌∷◌, ◌++◌, true, cond, ℕ, suc, ◌-◌, ◌*◌, eqb, take, drop}
+use Rattle.window.specs.Words.{Key, Frame, Session}
 use Rattle.gap.specs.Rules.Sequence.{part}
 use Rattle.editor.specs.Rules.Plain.{Plain, opening, Outcome, refused, done}
 use Rattle.editor.specs.Rules.Keys.{key}

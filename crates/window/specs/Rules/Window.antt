@@ -1,5 +1,5 @@
 -- Virtual text, cursor, window, visibility and policy. (01, the window; 001, sections 2 and 3.)
-use Rattle.window.specs.Words.{List, [], ◌∷◌, ◌++◌, map, Bool, ◌&&◌, cond, ℕ, suc, ◌+◌, ◌-◌, leb, ltb, get_or}
+use Rattle.std.specs.Prelude.{List, [], ◌∷◌, ◌++◌, map, Bool, ◌&&◌, cond, ℕ, suc, ◌+◌, ◌-◌, leb, ltb, get_or}
 use Rattle.window.specs.Words.{Mode, Main, Quoted, Frame}
 use Rattle.gap.specs.Rules.Sequence.{counted}
 use Rattle.gap.specs.Rules.Doc.{Doc, content}

@@ -1,5 +1,6 @@
 -- The editor's examples on bytes: the same keys on record and stores, in quarters of 16 bytes, which are enough for them.
-use Rattle.window.specs.Words.{List, [], ◌∷◌, ◌++◌, Bool, ◌&&◌, cond, ℕ, ◌-◌, ◌*◌, length, Key, Main, Unmarked}
+use Rattle.std.specs.Prelude.{List, [], ◌∷◌, ◌++◌, Bool, ◌&&◌, cond, ℕ, ◌-◌, ◌*◌, length}
+use Rattle.window.specs.Words.{Key, Main, Unmarked}
 use Rattle.gap.specs.Rules.Sequence.{zeros}
 use Rattle.gap.specs.Rules.Doc.{Doc, content}
 use Rattle.gap.specs.Tables.Written.{marked}

@@ -1,7 +1,6 @@
 -- What document 01 and request M-101 say of opening, refusals and sessions, on records and stores of any kind.
 use Prim.Native.String.{String}
-use Rattle.std.specs.Prelude.{replicate}
-use Rattle.window.specs.Words.{List, [], ◌∷◌, ◌++◌, Bool, false, ◌&&◌, ℕ, ◌-◌, ◌*◌, eqb, length}
+use Rattle.std.specs.Prelude.{replicate, List, [], ◌∷◌, ◌++◌, Bool, false, ◌&&◌, ℕ, ◌-◌, ◌*◌, eqb, length}
 use Rattle.window.specs.Words.{Key, Insert, Recall, Quote, Mark, Cut, Paste, Main, Quoted, Marking, Unmarked, At, Lengths, Session}
 use Rattle.gap.specs.Rules.Sequence.{same_bytes, zeros}
 use Rattle.gap.specs.Rules.Strings.{bytes}

@@ -1,5 +1,6 @@
 -- What request M-109 says of the conversion's refusals, on a session that needs little: one row and one column, and no text at all.
-use Rattle.window.specs.Words.{List, [], ◌∷◌, Bool, ℕ, eqb, Main, Quoted, Mode, Unmarked, Lengths}
+use Rattle.std.specs.Prelude.{List, [], ◌∷◌, Bool, ℕ, eqb}
+use Rattle.window.specs.Words.{Main, Quoted, Mode, Unmarked, Lengths}
 use Rattle.gap.specs.Rules.Sequence.{zeros}
 use Rattle.gap.specs.Tables.Sentence.{Sentence, sentence}
 use Rattle.editor.specs.Rules.Bytes.{Stores}

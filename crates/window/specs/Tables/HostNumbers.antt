@@ -1,7 +1,7 @@
 -- The numbers of the host's boundary by example: which numbers name which key, and what calls in numbers answer and hand back.
 -- proofs/Theorems/HostNumbers shows that the definitions give each of them.
+use Rattle.std.specs.Prelude.{List, [], ◌∷◌, ◌++◌, map, cond, ℕ, ◌-◌, ◌*◌, eqb, length}
 use Prim.Native.String.{String}
-use Rattle.window.specs.Words.{List, [], ◌∷◌, ◌++◌, map, cond, ℕ, ◌-◌, ◌*◌, eqb, length}
 use Rattle.window.specs.Words.{Left, Right, Move, Delete, Character, Word, LineBeginning, LineEnding, Document}
 use Rattle.window.specs.Words.{Key, Insert, Function, Recall, Quote, Find, Replace, Mark, Cut, Paste, Newline, Tab}
 use Rattle.gap.specs.Rules.Sequence.{zeros}

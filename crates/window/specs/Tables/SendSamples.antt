@@ -1,8 +1,7 @@
 -- Examples of the bytes for a terminal and of a terminal that reads them, worked out by hand from M-100's text.
 -- proofs/Theorems/SendSamples shows that the definitions give each of them.
 use Prim.Native.String.{String}
-use Rattle.std.specs.Prelude.{replicate}
-use Rattle.window.specs.Words.{List, [], ◌∷◌, ◌++◌, map, Bool, true, false, not, ◌&&◌, ◌||◌, cond, ℕ, ◌-◌, ◌*◌, eqb, length, take}
+use Rattle.std.specs.Prelude.{replicate, List, [], ◌∷◌, ◌++◌, map, Bool, true, false, not, ◌&&◌, ◌||◌, cond, ℕ, ◌-◌, ◌*◌, eqb, length, take}
 use Rattle.gap.specs.Rules.Sequence.{same_bytes}
 use Rattle.gap.specs.Rules.Strings.{bytes}
 use Rattle.window.specs.Rules.Sending.{SendOutcome, sending}

@@ -1,7 +1,7 @@
 -- The edges that document 01 marks with P, as one table. Each row opens a text on bytes, brings the cursor to its mark by moves,
 -- presses the keys, and states facts about the last call. proofs/Theorems/Edges shows that the definitions give each of them. Behind it, in
 -- the same form, what the change requests tell of.
-use Rattle.window.specs.Words.{List, [], ◌∷◌, ◌++◌, map, Bool, true, false, ◌&&◌, ℕ, zero, suc, ◌-◌, ◌*◌, eqb, length, take}
+use Rattle.std.specs.Prelude.{List, [], ◌∷◌, ◌++◌, map, Bool, true, false, ◌&&◌, ℕ, zero, suc, ◌-◌, ◌*◌, eqb, length, take}
 use Rattle.window.specs.Words.{Left, Right, Move, Delete, Character, Word, LineBeginning, LineEnding, Document}
 use Rattle.window.specs.Words.{Key, Insert, Function, Recall, Quote, Find, Replace, Mark, Cut, Paste}
 use Prim.Native.String.{String}

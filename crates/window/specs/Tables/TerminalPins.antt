@@ -1,5 +1,6 @@
 -- What the third demand and M-100 say of a terminal that is kept up to date, with examples.
-use Rattle.window.specs.Words.{List, [], ◌∷◌, Bool, ◌*◌, LineBeginning, Key, Insert}
+use Rattle.std.specs.Prelude.{List, [], ◌∷◌, Bool, ◌*◌}
+use Rattle.window.specs.Words.{LineBeginning, Key, Insert}
 use Rattle.gap.specs.Rules.Sequence.{zeros}
 use Rattle.gap.specs.Rules.Strings.{bytes}
 use Rattle.gap.specs.Tables.Sentence.{Sentence, sentence}

@@ -1,5 +1,6 @@
 -- What document 01 says of the window, each sentence with its examples: they open a text on bytes and press keys, as the edges do.
-use Rattle.window.specs.Words.{List, [], ◌∷◌, ◌++◌, Bool, ℕ, Character, LineBeginning, Document}
+use Rattle.std.specs.Prelude.{List, [], ◌∷◌, ◌++◌, Bool, ℕ}
+use Rattle.window.specs.Words.{Character, LineBeginning, Document}
 use Rattle.window.specs.Words.{Key, Insert, Quote, Mark, Cut}
 use Prim.Native.String.{String}
 use Rattle.gap.specs.Tables.Sentence.{Sentence, sentence}

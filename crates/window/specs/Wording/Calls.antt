@@ -1,6 +1,6 @@
 -- How the promises of this layer's functions speak: spots, texts as they are lent, and the outcome of a call as one value.
-use Rattle.std.specs.Prelude.{◌≡◌, ◌≤◌, ◌<◌}
-use Rattle.window.specs.Words.{List, Bool, ◌&&◌, cond, ℕ, ◌+◌, ◌*◌, true, leb, ltb, length, take, Lengths, Frame, Session}
+use Rattle.std.specs.Prelude.{◌≡◌, ◌≤◌, ◌<◌, List, Bool, ◌&&◌, cond, ℕ, ◌+◌, ◌*◌, true, leb, ltb, length, take}
+use Rattle.window.specs.Words.{Lengths, Frame, Session}
 use Rattle.gap.specs.Rules.Doc.{Doc}
 use Rattle.gap.specs.Rules.Lines.{newlines}
 use Rattle.gap.specs.Rules.Layout.{ungap}

@@ -1,6 +1,6 @@
 -- What the conversion promises of its outcome, for every input: answer, record and the bytes of the new side store.
-use Rattle.std.specs.Prelude.{◌≡◌}
-use Rattle.window.specs.Words.{List, ℕ, Session}
+use Rattle.std.specs.Prelude.{◌≡◌, List, ℕ}
+use Rattle.window.specs.Words.{Session}
 use Rattle.editor.specs.Rules.Bytes.{Stores}
 use Rattle.window.specs.declared.Reply.{Reply}
 use Rattle.window.specs.declared.host.Record.{Record}

@@ -1,6 +1,6 @@
 -- What the demands say of the outcome of a call, part by part. Theorems say it of whatever outcome meets a promise.
-use Rattle.std.specs.Prelude.{◌≡◌, ◌↔◌, ◌≢◌, ◌≤◌, ◌<◌}
-use Rattle.window.specs.Words.{List, Bool, true, false, ℕ, ◌+◌, ◌-◌, Direction, Left, Right, Action, Move, Delete, Mode, Main, Quoted, Key, Session}
+use Rattle.std.specs.Prelude.{◌≡◌, ◌↔◌, ◌≢◌, ◌≤◌, ◌<◌, List, Bool, true, false, ℕ, ◌+◌, ◌-◌}
+use Rattle.window.specs.Words.{Direction, Left, Right, Action, Move, Delete, Mode, Main, Quoted, Key, Session}
 use Rattle.gap.specs.Rules.Doc.{Doc, content, room, move, delete, times}
 use Rattle.gap.specs.Rules.Nearest.{LeastMoves}
 use Rattle.gap.specs.Rules.Lines.{newlines}

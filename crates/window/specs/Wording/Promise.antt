@@ -1,7 +1,7 @@
 -- What the calls promise of their outcome: answer, record and the bytes of all five stores, for every input. And what the routine for
 -- terminals promises: answer and the bytes of the buffer.
-use Rattle.std.specs.Prelude.{◌≡◌}
-use Rattle.window.specs.Words.{List, [], ◌∷◌, true, ℕ, ◌-◌, Key, Frame, Session}
+use Rattle.std.specs.Prelude.{◌≡◌, List, [], ◌∷◌, true, ℕ, ◌-◌}
+use Rattle.window.specs.Words.{Key, Frame, Session}
 use Rattle.gap.specs.Rules.Numbers.{bit}
 use Rattle.editor.specs.Rules.Plain.{Plain, Did}
 use Rattle.window.specs.declared.host.Record.{Record}

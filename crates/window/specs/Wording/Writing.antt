@@ -1,7 +1,6 @@
 -- How the promises of the functions that write for a terminal speak.
-use Rattle.std.specs.Prelude.{◌≤◌}
+use Rattle.std.specs.Prelude.{◌≤◌, List, ℕ, zero, suc, ◌+◌, ◌*◌, length}
 use denote.Ref.{at_last}
-use Rattle.window.specs.Words.{List, ℕ, zero, suc, ◌+◌, ◌*◌, length}
 use Rattle.gap.specs.Rules.Sequence.{patch}
 use Rattle.window.specs.declared.Sending.{Sending}
 use Rattle.window.specs.declared.writer.Writer.{Writer}

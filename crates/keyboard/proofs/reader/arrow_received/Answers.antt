@@ -1,10 +1,10 @@
 -- `reader::arrow_received` meets its contract: its arms are the keys of the table, and no other byte is one of theirs.
+use Rattle.std.specs.Prelude.{[], ◌∷◌}
 use borrow.Author.Rules.{rules}
 use mathlib.Core.Path.{sym, ap}
 use Rattle.gap.specs.Rules.Sequence.{same_bytes}
 use Rattle.gap.specs.Rules.Strings.{bytes}
 use Rattle.keyboard.specs.Rules.Keyboard.{escape, bracket, bytes_of, arrow_keys, key_among, arrow_received}
-use Rattle.keyboard.specs.Words.{[], ◌∷◌}
 use Rattle.keyboard.proofs.Laws.Table.{NoneOf, unlisted}
 use Rattle.keyboard.proofs.reader.arrow_received.Goals as goal
 

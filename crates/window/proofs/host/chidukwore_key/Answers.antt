@@ -1,6 +1,6 @@
 -- `host::chidukwore_key` meets its contract: it is the key call, in numbers, where the mode is one.
+use Rattle.std.specs.Prelude.{true, false}
 use mathlib.Core.Path.{sym, ◌∙◌}
-use Rattle.window.specs.Words.{true, false}
 use Rattle.window.proofs.Laws.HostNumbers.{keyed-given, no-mode-given}
 use Rattle.window.proofs.host.chidukwore_key.Goals as goal
 

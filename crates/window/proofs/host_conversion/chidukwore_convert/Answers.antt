@@ -1,6 +1,6 @@
 -- `chidukwore_convert` is the conversion, in numbers, where the mode is one.
+use Rattle.std.specs.Prelude.{true, false}
 use mathlib.Core.Path.{sym, ◌∙◌}
-use Rattle.window.specs.Words.{true, false}
 use Rattle.window.proofs.Laws.Conversion.{converted-given, no-mode-converted}
 use Rattle.window.proofs.host_conversion.chidukwore_convert.Goals as goal
 
