@@ -6,13 +6,15 @@ mod run;
 mod script;
 mod table;
 
-ghost use Rattle.std.specs.Prelude.{◌+◌, ◌≤◌, ◌<◌, length};
+ghost use Rattle.std.specs.Prelude.{◌+◌, ◌≤◌, ◌<◌, length, IfOk};
 ghost use Rattle.window.specs.Wording.Calls.{lent};
 ghost use Rattle.bench.specs.Wording.Turns.{AsAsked};
 
 use crate::print::put_script;
 use crate::run::{begin, next_turn, opening, screen_size};
 use editor::{Key, QUARTER};
+use std::io;
+use std::io::Read;
 use window::Session;
 
 // What the four header lines say, and where the text stands in the input.
@@ -66,16 +68,33 @@ pub struct Turn {
     pub printed: usize,
 }
 
-// The first n bytes go to standard output. Where nobody takes them the script still ends soon, so the answer is not looked at.
-fn write_front(out: &[u8], n: usize)
-    requires { n ≤ length out.now }
+// The input goes to the front of the buffer, until that is full or the input ends: how many bytes there are. After an error the bytes
+// that came before it stand there, uncounted.
+fn read_full(input: &mut impl Read, buffer: &mut [u8]) -> io::Result<usize>
+    ensures { IfOk result (λ n. n ≤ length buffer.new) }
 {
-    io::write_all(1, &out[..n]);
+    let mut done = 0;
+    while done < buffer.len() {
+        let n = input.read(&mut buffer[done..])?;
+        if n == 0 {
+            break;
+        }
+        done += n;
+    }
+    Ok(done)
 }
 
-// The turns, one after the other, each printed at once. The stores are as long as the header asks, and the turns rest on it: with
-// others the opening would be refused, or another text opened.
+// The first n bytes go to standard output. Where nobody takes them, that is an error; some of them may have gone before it.
+fn write_front(rt: &impl Print, out: &[u8], n: usize) -> io::Result<()>
+    requires { n ≤ length out.now }
+{
+    rt.write_all(&out[..n])
+}
+
+// The turns, one after the other, each printed at once; none comes after one that could not be printed. The stores are as long as the
+// header asks, and the turns rest on it: with others the opening would be refused, or another text opened.
 fn play(
+    rt: &impl Print,
     h: Header,
     input: &[u8],
     text: &mut [u8],
@@ -84,23 +103,24 @@ fn play(
     side: &mut [u8],
     screen: &mut [u8],
     out: &mut [u8],
-)
+) -> io::Result<()>
     requires length_in_bounds { h.at + h.length < length input.now }
     requires as_asked { AsAsked h (lent text.old recall.old held.old side.old screen.old) }
     requires in_bounds { 17408 ≤ length out.old }
 {
     let mut turn = opening(h, input, text, recall, held, side, screen, out);
-    write_front(out, turn.printed);
+    write_front(rt, out, turn.printed)?;
     let mut going = turn.going;
     while going {
         turn = next_turn(turn, input, text, recall, held, side, screen, out);
-        write_front(out, turn.printed);
+        write_front(rt, out, turn.printed)?;
         going = turn.going;
     }
+    Ok(())
 }
 
 // The stores that the header asks for.
-fn lend(h: Header, input: &[u8])
+fn lend(rt: &impl Print, h: Header, input: &[u8]) -> io::Result<()>
     requires length_in_bounds { h.at + h.length < length input.now }
     requires store_bound { h.store ≤ 4096 }
 {
@@ -113,6 +133,7 @@ fn lend(h: Header, input: &[u8])
     let store = h.store;
     let area = screen_size(h.rows, h.columns);
     play(
+        rt,
         h,
         input,
         &mut text[..store],
@@ -121,27 +142,28 @@ fn lend(h: Header, input: &[u8])
         &mut side,
         &mut screen[..area],
         &mut out,
-    );
+    )
 }
 
 // A script that cannot be read from its beginning prints one line.
-fn give_up(line: usize) {
+fn give_up(rt: &impl Print, line: usize) -> io::Result<()> {
     let mut out = [0u8; 17408];
     let printed = put_script(line, &mut out);
-    write_front(&out, printed);
+    write_front(rt, &out, printed)
 }
 
-fn start(input: &[u8]) {
+fn start(rt: &impl Print, input: &[u8]) -> io::Result<()> {
     let heading = begin(input);
     match heading {
-        Heading::Headed(h) => lend(h, input),
-        Heading::Broken(line) => give_up(line),
+        Heading::Headed(h) => lend(rt, h, input),
+        Heading::Broken(line) => give_up(rt, line),
     }
 }
 
-// One byte more is read than a script may have, so that one that is too long is known.
-fn main() {
+// One byte more is read than a script may have, so that one that is too long is known. A read or a write that failed ends the program
+// with its error.
+fn main(rt: HostRuntime) -> io::Result<()> {
     let mut input = [0u8; 8193];
-    let n = io::read_full(0, &mut input);
-    start(&input[..n]);
+    let n = read_full(&mut rt.stdin(), &mut input)?;
+    start(&rt, &input[..n])
 }
