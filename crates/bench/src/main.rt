@@ -6,7 +6,8 @@ mod run;
 mod script;
 mod table;
 
-ghost use Rattle.std.specs.Prelude.{◌+◌, ◌≤◌, ◌<◌, length, IfOk};
+ghost use Rattle.std.specs.Prelude.{◌+◌, ◌≤◌, ◌<◌, length, take, IfOk};
+ghost use Rattle.std.specs.Io.KnownBytes.{Consumes, IsAtEnd};
 ghost use Rattle.window.specs.Wording.Calls.{lent};
 ghost use Rattle.bench.specs.Wording.Turns.{AsAsked};
 
@@ -69,9 +70,11 @@ pub struct Turn {
 }
 
 // The input goes to the front of the buffer, until that is full or the input ends: how many bytes there are. After an error the bytes
-// that came before it stand there, uncounted.
-fn read_full(input: &mut impl Read, buffer: &mut [u8]) -> io::Result<usize>
-    ensures { IfOk result (λ n. n ≤ length buffer.new) }
+// that came before it stand there, uncounted. The promises say more of a reader whose bytes are known, as standard input's are not.
+fn read_full<R: Read>(input: &mut R, buffer: &mut [u8]) -> io::Result<usize>
+    ensures in_bounds { IfOk result (λ n. n ≤ length buffer.new) }
+    ensures bytes { IfOk result (λ n. Consumes (R.remaining input.old) (R.remaining input.new) (take n buffer.new)) }
+    ensures end { IfOk result (λ n. n < length buffer.new → IsAtEnd (R.remaining input.new)) }
 {
     let mut done = 0;
     while done < buffer.len() {
