@@ -1,6 +1,4 @@
--- The words that the definitions of this layer speak with, passed on in one place.
-pub use Rattle.std.specs.Prelude.{List, [], ◌∷◌, ◌++◌, map, Bool, true, false, ◌&&◌, cond, ℕ, zero, suc, ◌+◌, ◌-◌, ◌*◌, eqb, leb, ltb, length, take, drop, get_or}
-pub use Prim.Native.String.{String}
+-- The types and cases that the definitions of this layer speak with, passed on in one place.
 pub use Rattle.gap.specs.declared.Direction.{Direction}
 pub use Rattle.gap.specs.declared.Direction.TheVariants.{Left, Right}
 pub use Rattle.gap.specs.declared.Search.{Search}

@@ -1,5 +1,7 @@
 -- The names of the keys. (01, the bench program: keys.)
-use Rattle.bench.specs.Words.{List, [], ◌∷◌, ◌++◌, map, cond, ℕ, ◌-◌, leb, length, drop, get_or, String, Number, Read, Unreadable}
+use Rattle.std.specs.Prelude.{List, [], ◌∷◌, ◌++◌, map, cond, ℕ, ◌-◌, leb, length, drop, get_or}
+use Prim.Native.String.{String}
+use Rattle.bench.specs.Words.{Number, Read, Unreadable}
 use Rattle.bench.specs.Words.{Direction, Left, Right, Search, Reached, Nowhere, Action, Move, Delete}
 use Rattle.bench.specs.Words.{Place, Character, Word, LineBeginning, LineEnding, Document, Key, Insert, Function, Recall, Quote}
 use Rattle.bench.specs.Words.{Find, Replace, Mark, Cut, Paste, Newline, Tab, Naming, Named, Unnamed, Entry}

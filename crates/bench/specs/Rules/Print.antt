@@ -1,5 +1,5 @@
 -- What is printed. (01, the bench program: blocks.)
-use Rattle.bench.specs.Words.{List, [], ◌∷◌, ◌++◌, cond, ℕ, zero, suc, eqb, take, drop}
+use Rattle.std.specs.Prelude.{List, [], ◌∷◌, ◌++◌, cond, ℕ, zero, suc, eqb, take, drop}
 use Rattle.gap.specs.Rules.Strings.{bytes}
 use Rattle.gap.specs.Rules.Lines.{newline}
 use Rattle.gap.specs.Rules.Numbers.{bit}

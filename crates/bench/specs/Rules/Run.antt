@@ -1,5 +1,5 @@
 -- What the program does with its input, and all that it prints. (01, the bench program.)
-use Rattle.bench.specs.Words.{List, [], ◌++◌, Bool, true, false, cond, ℕ, zero, suc, ◌+◌, ◌*◌, eqb, leb, length, take}
+use Rattle.std.specs.Prelude.{List, [], ◌++◌, Bool, true, false, cond, ℕ, zero, suc, ◌+◌, ◌*◌, eqb, leb, length, take}
 use Rattle.bench.specs.Words.{Key, Header, Heading, Headed, Broken, Reading, Pressed, Finished, Unknown}
 use Rattle.gap.specs.Rules.Sequence.{part, patch, zeros}
 use Rattle.gap.specs.Rules.Fields.{line_number}

@@ -1,5 +1,5 @@
 -- How a script is read: four header lines, the text, and lines of keys. (01, the bench program.)
-use Rattle.bench.specs.Words.{List, Bool, ◌&&◌, cond, ℕ, ◌+◌, eqb, ltb, length, drop, get_or}
+use Rattle.std.specs.Prelude.{List, Bool, ◌&&◌, cond, ℕ, ◌+◌, eqb, ltb, length, drop, get_or}
 use Rattle.bench.specs.Words.{Number, Read, Unreadable, Heading, Headed, Broken, Naming, Named, Unnamed}
 use Rattle.bench.specs.Words.{Reading, Pressed, Finished, Unknown}
 use Rattle.gap.specs.Rules.Sequence.{begins}

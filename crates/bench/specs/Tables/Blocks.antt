@@ -1,5 +1,5 @@
 -- What is printed of an answer, in order and word for word. proofs/Theorems/Pins computes it.
-use Rattle.bench.specs.Words.{List, [], ◌∷◌, Bool, true, false, ℕ}
+use Rattle.std.specs.Prelude.{List, [], ◌∷◌, Bool, true, false, ℕ}
 use Rattle.gap.specs.Rules.Strings.{bytes}
 use Rattle.gap.specs.Tables.Sentence.{Sentence, sentence}
 use Rattle.gap.specs.Tables.Written.{is_bytes}

@@ -1,5 +1,7 @@
 -- Every key's name as documents 01 and 02 write it, and words that name no key. proofs/Theorems/Pins computes them.
-use Rattle.bench.specs.Words.{List, [], ◌∷◌, String, Left, Right, Move, Delete, Character, Word, LineBeginning, LineEnding, Document}
+use Rattle.std.specs.Prelude.{List, [], ◌∷◌}
+use Prim.Native.String.{String}
+use Rattle.bench.specs.Words.{Left, Right, Move, Delete, Character, Word, LineBeginning, LineEnding, Document}
 use Rattle.bench.specs.Words.{Key, Insert, Function, Recall, Quote, Find, Replace, Mark, Cut, Paste, Newline, Tab}
 
 pub record NamedKey : Type 0 where

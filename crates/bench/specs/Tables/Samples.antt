@@ -1,6 +1,7 @@
 -- Scripts with what they print: document 01's sample, and one for each way in which a script ends early. proofs/Theorems/Samples shows
 -- that the definitions print each of them.
-use Rattle.bench.specs.Words.{List, [], ◌∷◌, ◌++◌, Bool, true, ◌&&◌, ℕ, String}
+use Rattle.std.specs.Prelude.{List, [], ◌∷◌, ◌++◌, Bool, true, ◌&&◌, ℕ}
+use Prim.Native.String.{String}
 use Rattle.gap.specs.Rules.Sequence.{same_bytes}
 use Rattle.gap.specs.Rules.Strings.{bytes}
 use Rattle.bench.specs.Rules.Run.{output}

@@ -1,6 +1,6 @@
 -- How the promises about turns speak.
-use Rattle.std.specs.Prelude.{◌≡◌, ◌≤◌, ◌<◌}
-use Rattle.bench.specs.Words.{List, Bool, true, ℕ, ◌*◌, length, Header}
+use Rattle.std.specs.Prelude.{◌≡◌, ◌≤◌, ◌<◌, List, Bool, true, ℕ, ◌*◌, length}
+use Rattle.bench.specs.Words.{Header}
 use Rattle.gap.specs.Wording.Written.{Wrote}
 use Rattle.editor.specs.Rules.Bytes.{quarter}
 use Rattle.window.specs.declared.Reply.{Reply}
