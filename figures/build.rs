@@ -1,4 +1,4 @@
-//! Links the proved core's library, from where `rt staticlib window` writes it.
+//! Links the proved core's library, from where `.ci/library` puts it.
 
 use std::path::Path;
 

@@ -221,8 +221,7 @@ pub fn refusal_of(code: usize, n: Record) -> HostReply
 // ---- The calls
 
 // Opens the first n bytes of the text store.
-#[unsafe(no_mangle)]
-pub extern "C" fn chidukwore_open(
+pub fn chidukwore_open(
     n: usize,
     rows: usize,
     columns: usize,
@@ -240,8 +239,7 @@ pub extern "C" fn chidukwore_open(
 }
 
 // Presses a key.
-#[unsafe(no_mangle)]
-pub extern "C" fn chidukwore_key(
+pub fn chidukwore_key(
     n: Record,
     kind: usize,
     a: usize,
@@ -278,8 +276,7 @@ pub extern "C" fn chidukwore_key(
 }
 
 // Writes the bytes that bring a terminal up to date.
-#[unsafe(no_mangle)]
-pub extern "C" fn chidukwore_paint(
+pub fn chidukwore_paint(
     rows: usize,
     columns: usize,
     first: usize,

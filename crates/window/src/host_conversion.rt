@@ -10,8 +10,7 @@ use crate::host::{HostReply, Record, in_numbers, refusal_of, session_from};
 use editor::refusals::{SESSION, SIZE};
 
 // Converts an old session: its stores are only read, and the new side store is written.
-#[unsafe(no_mangle)]
-pub extern "C" fn chidukwore_convert(
+pub fn chidukwore_convert(
     n: Record,
     text: &[u8],
     recall: &[u8],

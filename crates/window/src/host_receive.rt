@@ -89,8 +89,7 @@ fn heard_key(k: Key, used: usize) -> Heard
 }
 
 // The first key of the bytes received so far; or that more are needed; or SEQUENCE.
-#[unsafe(no_mangle)]
-pub extern "C" fn chidukwore_receive(bytes: &[u8]) -> Heard
+pub fn chidukwore_receive(bytes: &[u8]) -> Heard
     ensures { result ≡ heard_of (received bytes.now) }
 {
     match receive(bytes) {
