@@ -206,7 +206,8 @@ module _ (b : ℕ) where
   unfolding bytes_of
   insert-sent sent =
       let none : allowed b ≡ false → allowed b ≡ true = λ outside.
-      absurd (sent (cond-false _ _ (or-not-left (eqb b 10) (printable b) outside) ∙ cond-false _ _ (or-not-right (eqb b 10) (printable b) outside))) in
+      absurd (sent (cond-false _ _ (or-not-left (eqb b 10) (printable b) outside) ∙ cond-false _ _ (or-not-right (eqb b 10) (printable b) outside)))
+      in
       ⊎_elim (λ inside. inside) none (decided (allowed b))
 
 -- Bytes that begin with those of a key give it, and it uses these: the whole table, row by row.

@@ -12,5 +12,6 @@ vacate-requires c = omega (arith, c.requires.len.1)
 pub returns : goal.returns
 unfolding quarter
 returns c =
-    quarters-lengthened old_quarter quarter _ _ _ _ c.requires.len.0 c.requires.len.1 old-shorter c.requires.r_bound c.vacate.ensures c.lengthen_quotation.ensures
+    quarters-lengthened old_quarter quarter _ _ _ _ c.requires.len.0 c.requires.len.1 old-shorter c.requires.r_bound c.vacate.ensures
+    c.lengthen_quotation.ensures
     c.lengthen_quarter.ensures c.lengthen_quarter-2.ensures c.lengthen_quarter-3.ensures

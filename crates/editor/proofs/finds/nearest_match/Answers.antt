@@ -9,7 +9,8 @@ pub loop-d-init : goal.loop-d-init
 loop-d-init c = (omega arith, scan-start _ _ _)
 
 pub block_match-found-requires : goal.block_match-found-requires
-block_match-found-requires c = record { reach = reach-part c.requires.reach (omega arith) (omega arith) (omega arith); k_in_bounds = c.telling-k.ensures.within }
+block_match-found-requires c =
+    record { reach = reach-part c.requires.reach (omega arith) (omega arith) (omega arith); k_in_bounds = c.telling-k.ensures.within }
 
 pub returns-in_default : goal.returns-in_default
 returns-in_default c = row-found c.loop-d.invariant.1 32 (omega arith) c.block_match-found.ensures c.in_default.is
@@ -20,7 +21,8 @@ loop-d-preserved c =
     (omega arith, passed)
 
 pub first_match-requires : goal.first_match-requires
-first_match-requires c = record { reach = reach-part c.requires.reach (omega arith) (omega arith) (omega arith); k_in_bounds = c.telling-k.ensures.within }
+first_match-requires c =
+    record { reach = reach-part c.requires.reach (omega arith) (omega arith) (omega arith); k_in_bounds = c.telling-k.ensures.within }
 
 pub returns : goal.returns
 returns c = row_last c.loop-d.invariant.1 _ (omega arith) c.first_match.ensures

@@ -8,7 +8,8 @@ pub returns-then-text-l : goal.returns-then-text-l
 returns-then-text-l c = λ recall on. spaced-refused on _ _ c.refused.ensures c.if-text-l.true
 
 pub returns-then-not-run_fits : goal.returns-then-not-run_fits
-returns-then-not-run_fits c = λ recall on. spaced-long on _ _ c.refused-then-not-run_fits.ensures c.if-text-l.false (sym c.run_fits.ensures ∙ c.if-not-run_fits.true)
+returns-then-not-run_fits c =
+    λ recall on. spaced-long on _ _ c.refused-then-not-run_fits.ensures c.if-text-l.false (sym c.run_fits.ensures ∙ c.if-not-run_fits.true)
 
 pub returns : goal.returns
 returns c =

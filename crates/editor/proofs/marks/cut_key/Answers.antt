@@ -26,7 +26,17 @@ returns-then-m-l c =
 
 pub delete_side-requires-2 : goal.delete_side-requires-2
 unfolding longest_line
-delete_side-requires-2 c = record { on_side = rw c.holding_sizes-sizes.ensures c.requires.on_side; d_bound = omega (arith, position-within _ _ _ c.in-At.is c.requires.mark_value, ap (λ m. m.l) c.holding_sizes-sizes.ensures, ap (λ m. m.r) c.holding_sizes-sizes.ensures) }
+delete_side-requires-2 c =
+    record {
+      on_side = rw c.holding_sizes-sizes.ensures c.requires.on_side;
+      d_bound = omega (
+        arith,
+        position-within _ _ _ c.in-At.is c.requires.mark_value,
+        ap (λ m. m.l) c.holding_sizes-sizes.ensures,
+        ap (λ m. m.r)
+            c.holding_sizes-sizes.ensures,
+      );
+    }
 
 pub returns : goal.returns
 unfolding longest_line

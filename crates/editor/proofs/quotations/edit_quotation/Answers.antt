@@ -22,7 +22,9 @@ slice_bounds-on_side-end-2 c = simp length-take (omega arith)
 
 pub on_side-t-requires : goal.on_side-t-requires
 unfolding quarter part
-on_side-t-requires c = subst (OnSide _ _ _) (sym ((second-copied quarter c.args.side.now c.requires.side_len _ _ c.copy_front.auto.s c.copy_front.ensures))) c.requires.on_side
+on_side-t-requires c =
+    subst (OnSide _ _ _) (sym (second-copied quarter c.args.side.now c.requires.side_len _ _ c.copy_front.auto.s c.copy_front.ensures))
+    c.requires.on_side
 
 pub copy_at-requires : goal.copy_at-requires
 unfolding quarter
@@ -33,5 +35,6 @@ copy_at-requires c =
 pub returns : goal.returns
 unfolding quarter part
 returns c =
-    let both = quotation-edited quarter c.args.side.now c.requires.side_len _ _ _ (editing c.args.e) _ _ _ _ ((second-copied quarter c.args.side.now c.requires.side_len _ _ c.copy_front.auto.s c.copy_front.ensures))
+    let both = quotation-edited quarter c.args.side.now c.requires.side_len _ _ _ (editing c.args.e) _ _ _ _
+    (second-copied quarter c.args.side.now c.requires.side_len _ _ c.copy_front.auto.s c.copy_front.ensures)
     c.on_side-t.auto.text c.on_side-t.auto.recall c.on_side-t.ensures c.copy_at.ensures in record { edits_side = both.0; side_unchanged = both.1 }

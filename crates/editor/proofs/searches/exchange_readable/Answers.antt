@@ -51,7 +51,15 @@ pub runs_fit-requires : goal.runs_fit-requires
 unfolding quarter longest_line
 runs_fit-requires c =
     let match = sym c.requires.3 ∙ c.if-not-here.false in
-    record { front_value = (front_fits quarter _ _ c.requires.2, behind-fits quarter _ _ c.requires.2 (pattern-stands quarter _ _ c.requires.2 (sym c.requires.3 ∙ c.if-not-here.false))); y_len_bound = small-main quarter _ _ c.requires.2 match (pattern-stands quarter _ _ c.requires.2 (sym c.requires.3 ∙ c.if-not-here.false)) (omega arith) }
+    record {
+      front_value = (
+        front_fits quarter _ _ c.requires.2,
+        behind-fits quarter _ _ c.requires.2
+            (pattern-stands quarter _ _ c.requires.2 (sym c.requires.3 ∙ c.if-not-here.false)),
+      );
+      y_len_bound = small-main quarter _ _ c.requires.2 match (pattern-stands quarter _ _ c.requires.2 (sym c.requires.3 ∙ c.if-not-here.false))
+          (omega arith);
+    }
 
 pub slice_bounds-own-end : goal.slice_bounds-own-end
 unfolding quarter
@@ -71,16 +79,26 @@ slice_bounds-runs_fit-start-in-Quoted c = simp length-take (omega (arith, fittin
 
 pub runs_fit-requires-in-Quoted : goal.runs_fit-requires-in-Quoted
 unfolding quarter longest_line
-runs_fit-requires-in-Quoted c = record { front_value = (front_fits quarter _ _ c.requires.2, behind-fits quarter _ _ c.requires.2 (pattern-stands quarter _ _ c.requires.2 (sym c.requires.3 ∙ c.if-not-here.false))); y_len_bound = simp (length-take, length-drop) (omega (arith, fitting quarter _ _ c.requires.2)) }
+runs_fit-requires-in-Quoted c =
+    record {
+      front_value = (
+        front_fits quarter _ _ c.requires.2,
+        behind-fits quarter _ _ c.requires.2
+            (pattern-stands quarter _ _ c.requires.2 (sym c.requires.3 ∙ c.if-not-here.false)),
+      );
+      y_len_bound = simp (length-take, length-drop) (omega (arith, fitting quarter _ _ c.requires.2));
+    }
 
 pub returns-in-Main : goal.returns-in-Main
 unfolding quarter longest_line plain_of
 returns-in-Main c =
     λ recall held sound. c.runs_fit.ensures
-    ∙ readable-main quarter _ _ sound (sym c.requires.3 ∙ c.if-not-here.false) (pattern-stands quarter _ _ c.requires.2 (sym c.requires.3 ∙ c.if-not-here.false)) c.in-Main.is
+    ∙ readable-main quarter _ _ sound (sym c.requires.3 ∙ c.if-not-here.false)
+    (pattern-stands quarter _ _ c.requires.2 (sym c.requires.3 ∙ c.if-not-here.false)) c.in-Main.is
 
 pub returns-in-Quoted : goal.returns-in-Quoted
 unfolding quarter longest_line plain_of
 returns-in-Quoted c =
     λ recall held sound. c.runs_fit-in-Quoted.ensures
-    ∙ readable-quoted quarter _ _ sound (sym c.requires.3 ∙ c.if-not-here.false) (pattern-stands quarter _ _ c.requires.2 (sym c.requires.3 ∙ c.if-not-here.false)) c.in-Quoted.is
+    ∙ readable-quoted quarter _ _ sound (sym c.requires.3 ∙ c.if-not-here.false)
+    (pattern-stands quarter _ _ c.requires.2 (sym c.requires.3 ∙ c.if-not-here.false)) c.in-Quoted.is

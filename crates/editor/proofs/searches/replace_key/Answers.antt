@@ -33,7 +33,8 @@ exchange_fits-requires c =
 pub returns-then-not-exchange_fits : goal.returns-then-not-exchange_fits
 unfolding quarter
 returns-then-not-exchange_fits c =
-    λ held sound. replace-refused quarter _ _ sound (stands_here quarter _ _ sound _ c.text_begins-here.ensures) _ c.replacement_taken-m.ensures c.exchange_fits.ensures
+    λ held sound. replace-refused quarter _ _ sound (stands_here quarter _ _ sound _ c.text_begins-here.ensures) _ c.replacement_taken-m.ensures
+    c.exchange_fits.ensures
     c.if-not-exchange_fits.true c.unedited.ensures
 
 -- What the test of lines says, whatever the held text.
@@ -44,8 +45,10 @@ exchange_readable-requires c = (_, _, c.requires.1, stands_here quarter _ _ c.re
 pub returns-then-not-exchange_readable : goal.returns-then-not-exchange_readable
 unfolding quarter
 returns-then-not-exchange_readable c =
-    λ held sound. replace-long quarter _ _ sound (stands_here quarter _ _ sound _ c.text_begins-here.ensures) _ c.replacement_taken-m.ensures c.exchange_fits.ensures
-    c.if-not-exchange_fits.false (sym (c.exchange_readable.ensures _ held sound) ∙ c.if-not-exchange_readable.true) c.unedited-then-not-exchange_readable.ensures
+    λ held sound. replace-long quarter _ _ sound (stands_here quarter _ _ sound _ c.text_begins-here.ensures) _ c.replacement_taken-m.ensures
+    c.exchange_fits.ensures
+    c.if-not-exchange_fits.false (sym (c.exchange_readable.ensures _ held sound) ∙ c.if-not-exchange_readable.true)
+    c.unedited-then-not-exchange_readable.ensures
 
 pub hand_quotation-requires : goal.hand_quotation-requires
 unfolding quarter
@@ -57,7 +60,8 @@ pub substitute-requires : goal.substitute-requires
 unfolding quarter
 substitute-requires c =
     let holds = replacement-holds quarter _ _ c.requires.1 c.replacement_taken-m.ensures c.hand_quotation.ensures in
-    let (match, room, lines) = replace-substitutes quarter _ _ c.requires.1 (stands_here quarter _ _ c.requires.1 _ c.text_begins-here.ensures) _ c.replacement_taken-m.ensures
+    let (match, room, lines) = replace-substitutes quarter _ _ c.requires.1 (stands_here quarter _ _ c.requires.1 _ c.text_begins-here.ensures) _
+    c.replacement_taken-m.ensures
     c.exchange_fits.ensures c.if-not-exchange_fits.false
     (sym (c.exchange_readable.ensures _ _ c.requires.1) ∙ c.if-not-exchange_readable.false) holds in
     (c.requires.0, holds.sound, record { known = match; room = room; lines = lines })
@@ -69,6 +73,7 @@ returns c =
     let holds = replacement-holds quarter _ _ sound c.replacement_taken-m.ensures c.hand_quotation.ensures in
     c.substitute.ensures held holds.sound
     ∙ replace-done quarter _ _ sound holds
-    (replace-fits quarter _ _ sound (stands_here quarter _ _ sound _ c.text_begins-here.ensures) _ c.replacement_taken-m.ensures c.exchange_fits.ensures
+    (replace-fits quarter _ _ sound (stands_here quarter _ _ sound _ c.text_begins-here.ensures) _ c.replacement_taken-m.ensures
+    c.exchange_fits.ensures
     c.if-not-exchange_fits.false)
     (sym (c.exchange_readable.ensures _ held sound) ∙ c.if-not-exchange_readable.false)

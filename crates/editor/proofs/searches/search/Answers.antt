@@ -26,7 +26,8 @@ returns-in_default c =
     (not_carried (on-side quarter _ _ sound Main) Move _ refl refl)
 
 pub move_side-t-requires : goal.move_side-t-requires
-move_side-t-requires c = record { gap = c.requires.document; d_bound = within-room c.args.n.main c.requires.document _ _ c.match_passage.ensures c.in-Reached.is }
+move_side-t-requires c =
+    record { gap = c.requires.document; d_bound = within-room c.args.n.main c.requires.document _ _ c.match_passage.ensures c.in-Reached.is }
 
 pub returns : goal.returns
 unfolding quarter

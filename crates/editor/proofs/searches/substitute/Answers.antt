@@ -21,10 +21,14 @@ unfolding quarter
 overflow_add-end c = omega (arith, fitting quarter _ _ c.requires.1)
 
 pub drop_right-requires : goal.drop_right-requires
-drop_right-requires c = record { gap = (on-side quarter _ _ c.requires.1 Main).gap; d_le_r = ((exchangeable quarter _ _ c.requires.1 (sym c.requires.2.known ∙ c.if-not-here.false) c.requires.2.room c.requires.2.lines)).stands }
+drop_right-requires c =
+    record {
+      gap = (on-side quarter _ _ c.requires.1 Main).gap;
+      d_le_r = (exchangeable quarter _ _ c.requires.1 (sym c.requires.2.known ∙ c.if-not-here.false) c.requires.2.room c.requires.2.lines).stands;
+    }
 
 pub overflow_sub-r : goal.overflow_sub-r
-overflow_sub-r c = ((exchangeable quarter _ _ c.requires.1 (sym c.requires.2.known ∙ c.if-not-here.false) c.requires.2.room c.requires.2.lines)).stands
+overflow_sub-r c = (exchangeable quarter _ _ c.requires.1 (sym c.requires.2.known ∙ c.if-not-here.false) c.requires.2.room c.requires.2.lines).stands
 
 pub slice_bounds-place_pair-end : goal.slice_bounds-place_pair-end
 unfolding quarter
@@ -32,23 +36,53 @@ slice_bounds-place_pair-end c = omega (arith, fitting quarter _ _ c.requires.1)
 
 pub place_pair-requires : goal.place_pair-requires
 unfolding quarter
-place_pair-requires c = record { gap = pattern-dropped quarter _ _ c.requires.1 _ c.drop_right.ensures; y_in_bounds = (omega (arith, (exchangeable quarter _ _ c.requires.1 (sym c.requires.2.known ∙ c.if-not-here.false) c.requires.2.room c.requires.2.lines), c.drop_right.auto.s), simp (length-take, length-drop) (omega (arith, fitting quarter _ _ c.requires.1))) }
+place_pair-requires c =
+    record {
+      gap = pattern-dropped quarter _ _ c.requires.1 _ c.drop_right.ensures;
+      y_in_bounds = (
+        omega (
+          arith,
+          (exchangeable quarter _ _ c.requires.1 (sym c.requires.2.known ∙ c.if-not-here.false) c.requires.2.room c.requires.2.lines),
+          c.drop_right.auto.s,
+        ),
+        simp (length-take, length-drop) (omega (arith, fitting quarter _ _ c.requires.1)),
+      );
+    }
 
 pub slice_bounds-hold-end : goal.slice_bounds-hold-end
 unfolding quarter
 slice_bounds-hold-end c = omega (arith, fitting quarter _ _ c.requires.1)
 
 pub hold-requires : goal.hold-requires
-hold-requires c = simp (length-take, length-drop) (omega (arith, fitting quarter _ _ c.requires.1, (exchangeable quarter _ _ c.requires.1 (sym c.requires.2.known ∙ c.if-not-here.false) c.requires.2.room c.requires.2.lines)))
+hold-requires c =
+    simp (length-take, length-drop)
+    (omega (
+      arith,
+      fitting quarter _ _ c.requires.1,
+      (exchangeable quarter _ _ c.requires.1 (sym c.requires.2.known ∙ c.if-not-here.false) c.requires.2.room c.requires.2.lines),
+    ))
 
 pub overflow_add-main : goal.overflow_add-main
-overflow_add-main c = omega (arith, (exchangeable quarter _ _ c.requires.1 (sym c.requires.2.known ∙ c.if-not-here.false) c.requires.2.room c.requires.2.lines), fitting quarter _ _ c.requires.1)
+overflow_add-main c =
+    omega (
+      arith,
+      (exchangeable quarter _ _ c.requires.1 (sym c.requires.2.known ∙ c.if-not-here.false) c.requires.2.room c.requires.2.lines),
+      fitting
+          quarter _ _ c.requires.1,
+    )
 
 pub overflow_sub-main : goal.overflow_sub-main
-overflow_sub-main c = ((exchangeable quarter _ _ c.requires.1 (sym c.requires.2.known ∙ c.if-not-here.false) c.requires.2.room c.requires.2.lines)).stands
+overflow_sub-main c =
+    (exchangeable quarter _ _ c.requires.1 (sym c.requires.2.known ∙ c.if-not-here.false) c.requires.2.room c.requires.2.lines).stands
 
 pub overflow_add-main-2 : goal.overflow_add-main-2
-overflow_add-main-2 c = omega (arith, (exchangeable quarter _ _ c.requires.1 (sym c.requires.2.known ∙ c.if-not-here.false) c.requires.2.room c.requires.2.lines), fitting quarter _ _ c.requires.1)
+overflow_add-main-2 c =
+    omega (
+      arith,
+      (exchangeable quarter _ _ c.requires.1 (sym c.requires.2.known ∙ c.if-not-here.false) c.requires.2.room c.requires.2.lines),
+      fitting
+          quarter _ _ c.requires.1,
+    )
 
 pub shape_of-text : goal.shape_of-text
 shape_of-text c = omega (arith, c.place_pair.auto.s, c.drop_right.auto.s)

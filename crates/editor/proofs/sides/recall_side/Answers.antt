@@ -9,10 +9,15 @@ pub returns-then-text-l : goal.returns-then-text-l
 returns-then-text-l c = recall-refused c.requires c.refused.ensures c.if-text-l.true
 
 pub pair_fits-requires : goal.pair_fits-requires
-pair_fits-requires c = record { y_in_bounds = (omega (arith, c.requires.gap.fits, c.if-text-l.false), c.requires.pair.fits); halves_fit = halves-fit _ _ _ _ c.requires.lines }
+pair_fits-requires c =
+    record {
+      y_in_bounds = (omega (arith, c.requires.gap.fits, c.if-text-l.false), c.requires.pair.fits);
+      halves_fit = halves-fit _ _ _ _ c.requires.lines;
+    }
 
 pub returns-then-not-pair_fits : goal.returns-then-not-pair_fits
-returns-then-not-pair_fits c = recall-long c.requires c.refused-then-not-pair_fits.ensures c.if-text-l.false (sym c.pair_fits.ensures ∙ c.if-not-pair_fits.true)
+returns-then-not-pair_fits c =
+    recall-long c.requires c.refused-then-not-pair_fits.ensures c.if-text-l.false (sym c.pair_fits.ensures ∙ c.if-not-pair_fits.true)
 
 pub returns : goal.returns
 returns c =

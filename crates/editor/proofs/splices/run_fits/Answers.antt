@@ -16,10 +16,26 @@ since_newline-at-requires c = simp length-take (omega arith)
 
 -- The line is no longer than what stands before the cursor.
 pub overflow_add-at : goal.overflow_add-at
-overflow_add-at c = omega (arith, c.requires.k_in_bounds, c.since_newline-at.ensures, since-fits 0 (take c.args.l c.args.text.now), short-take c.args.l c.args.text.now)
+overflow_add-at c =
+    omega (
+      arith,
+      c.requires.k_in_bounds,
+      c.since_newline-at.ensures,
+      since-fits 0 (take c.args.l c.args.text.now),
+      short-take c.args.l
+          c.args.text.now,
+    )
 
 pub overflow_add-at-2 : goal.overflow_add-at-2
-overflow_add-at-2 c = omega (arith, c.requires.k_in_bounds, c.since_newline-at.ensures, since-fits 0 (take c.args.l c.args.text.now), short-take c.args.l c.args.text.now)
+overflow_add-at-2 c =
+    omega (
+      arith,
+      c.requires.k_in_bounds,
+      c.since_newline-at.ensures,
+      since-fits 0 (take c.args.l c.args.text.now),
+      short-take c.args.l
+          c.args.text.now,
+    )
 
 pub returns : goal.returns
 returns c = other_fits _ _ _ _ _ _ c.requires.text_value c.if-b-eq10.false c.since_newline-at.ensures c.line_fits-2.ensures

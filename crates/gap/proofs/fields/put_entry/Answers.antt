@@ -14,4 +14,8 @@ put-requires c = omega (arith, decimal-short c.args.n (search rules))
 
 pub returns : goal.returns
 unfolding entry
-returns c = record { wrote = then c.put-number_at.ensures (then c.put_decimal-end.ensures c.put.ensures); upper_bound = omega (arith, decimal-short c.args.n (search rules)) }
+returns c =
+    record {
+      wrote = then c.put-number_at.ensures (then c.put_decimal-end.ensures c.put.ensures);
+      upper_bound = omega (arith, decimal-short c.args.n (search rules));
+    }

@@ -7,7 +7,8 @@ use mathlib.Core.Bool.{not}
 use Rattle.gap.proofs.line_limits.runs_fit.Goals as goal
 
 pub returns-then-not-lines_fit : goal.returns-then-not-lines_fit
-returns-then-not-lines_fit c = runs-first _ _ _ c.args.y.now _ c.requires.front_value c.since_newline-at_x.ensures c.lines_fit.ensures (ap not c.if-not-lines_fit.true)
+returns-then-not-lines_fit c =
+    runs-first _ _ _ c.args.y.now _ c.requires.front_value c.since_newline-at_x.ensures c.lines_fit.ensures (ap not c.if-not-lines_fit.true)
 
 pub since_newline-at_y-requires : goal.since_newline-at_y-requires
 since_newline-at_y-requires c = omega (arith, c.requires.y_len_bound, c.since_newline-at_x.ensures, since-fits 0 c.args.front.now)

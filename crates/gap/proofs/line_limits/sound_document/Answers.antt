@@ -18,7 +18,8 @@ pub slice_bounds-front-end : goal.slice_bounds-front-end
 slice_bounds-front-end c = sym (length-take-le _ _ (omega (arith, document-fits _ _ _ c.sound_gap.ensures (ap not c.if-not-sound_gap.false))))
 
 pub returns-then-not-lines_fit : goal.returns-then-not-lines_fit
-returns-then-not-lines_fit c = document-left _ _ _ _ c.sound_gap.ensures (ap not c.if-not-sound_gap.false) c.lines_fit.ensures (ap not c.if-not-lines_fit.true)
+returns-then-not-lines_fit c =
+    document-left _ _ _ _ c.sound_gap.ensures (ap not c.if-not-sound_gap.false) c.lines_fit.ensures (ap not c.if-not-lines_fit.true)
 
 pub since_newline-at-requires : goal.since_newline-at-requires
 since_newline-at-requires c = simp length-take (omega arith)

@@ -7,7 +7,7 @@ pub loop-i-init : goal.loop-i-init
 loop-i-init c = counted_start _
 
 pub overflow_add-count : goal.overflow_add-count
-overflow_add-count c = omega (arith, counted-fit _ _ _ ((counted-byte _ _ _ c.loop-i.invariant c.loop-i-test.true)))
+overflow_add-count c = omega (arith, counted-fit _ _ _ (counted-byte _ _ _ c.loop-i.invariant c.loop-i-test.true))
 
 pub loop-i-preserved : goal.loop-i-preserved
 loop-i-preserved c = counted-byte _ _ _ c.loop-i.invariant c.loop-i-test.true

@@ -13,7 +13,8 @@ pub loop-i-init : goal.loop-i-init
 loop-i-init c = passed_start printable _
 
 pub returns-then-not-is_printable : goal.returns-then-not-is_printable
-returns-then-not-is_printable c = passed-found printable _ _ c.loop-i.invariant c.loop-i-test.true c.is_printable.ensures (ap not c.if-not-is_printable.true)
+returns-then-not-is_printable c =
+    passed-found printable _ _ c.loop-i.invariant c.loop-i-test.true c.is_printable.ensures (ap not c.if-not-is_printable.true)
 
 pub loop-i-preserved : goal.loop-i-preserved
 loop-i-preserved c = passed-more printable _ _ c.loop-i.invariant c.loop-i-test.true c.is_printable.ensures (ap not c.if-not-is_printable.false)

@@ -8,7 +8,8 @@ pub returns-then-bytes-lt1 : goal.returns-then-bytes-lt1
 returns-then-bytes-lt1 c = sym (received_none c.args.bytes.now c.if-bytes-lt1.true)
 
 pub returns-then-first-ne-ESCAPE : goal.returns-then-first-ne-ESCAPE
-returns-then-first-ne-ESCAPE c = c.byte_received.ensures ∙ received-byte c.args.bytes.now (omega (arith, c.if-bytes-lt1.false)) c.if-first-ne-ESCAPE.true
+returns-then-first-ne-ESCAPE c =
+    c.byte_received.ensures ∙ received-byte c.args.bytes.now (omega (arith, c.if-bytes-lt1.false)) c.if-first-ne-ESCAPE.true
 
 pub returns-then-bytes-lt2 : goal.returns-then-bytes-lt2
 returns-then-bytes-lt2 c = sym (received-escape c.args.bytes.now c.if-first-ne-ESCAPE.false c.if-bytes-lt2.true)

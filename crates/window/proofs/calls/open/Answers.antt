@@ -10,11 +10,14 @@ use mathlib.Core.Bool.{not}
 use Rattle.window.proofs.calls.open.Goals as goal
 
 pub returns-then-not-tabled_stores : goal.returns-then-not-tabled_stores
-returns-then-not-tabled_stores c = size-refused _ _ _ ((lent c.args.text.now c.args.recall.now c.args.held.now c.args.side.now c.args.screen.now)) c.tabled_stores.ensures (ap not c.if-not-tabled_stores.true) c.unopened.ensures
+returns-then-not-tabled_stores c =
+    size-refused _ _ _ (lent c.args.text.now c.args.recall.now c.args.held.now c.args.side.now c.args.screen.now) c.tabled_stores.ensures
+    (ap not c.if-not-tabled_stores.true) c.unopened.ensures
 
 pub returns-then-text-n : goal.returns-then-text-n
 returns-then-text-n c =
-    long-refused _ _ _ ((lent c.args.text.now c.args.recall.now c.args.held.now c.args.side.now c.args.screen.now)) c.tabled_stores.ensures (ap not c.if-not-tabled_stores.false) c.if-text-n.true
+    long-refused _ _ _ (lent c.args.text.now c.args.recall.now c.args.held.now c.args.side.now c.args.screen.now) c.tabled_stores.ensures
+    (ap not c.if-not-tabled_stores.false) c.if-text-n.true
     c.unopened-then-text-n.ensures
 
 pub slice_bounds-bad_byte-end-2 : goal.slice_bounds-bad_byte-end-2
@@ -24,17 +27,24 @@ pub slice_bounds-long_line-end-in-Nowhere : goal.slice_bounds-long_line-end-in-N
 slice_bounds-long_line-end-in-Nowhere c = sym (length-take-le _ _ c.if-text-n.false)
 
 pub open_sound-requires : goal.open_sound-requires
-open_sound-requires c = record { screen_value = stores-fit _ _ ((lent c.args.text.now c.args.recall.now c.args.held.now c.args.side.now c.args.screen.now)) c.tabled_stores.ensures (ap not c.if-not-tabled_stores.false); n_in_bounds = c.if-text-n.false }
+open_sound-requires c =
+    record {
+      screen_value = stores-fit _ _ (lent c.args.text.now c.args.recall.now c.args.held.now c.args.side.now c.args.screen.now) c.tabled_stores.ensures
+          (ap not c.if-not-tabled_stores.false);
+      n_in_bounds = c.if-text-n.false;
+    }
 
 pub returns-in-Reached : goal.returns-in-Reached
 returns-in-Reached c =
-    text-refused _ _ _ ((lent c.args.text.now c.args.recall.now c.args.held.now c.args.side.now c.args.screen.now)) c.tabled_stores.ensures (ap not c.if-not-tabled_stores.false) c.if-text-n.false
+    text-refused _ _ _ (lent c.args.text.now c.args.recall.now c.args.held.now c.args.side.now c.args.screen.now) c.tabled_stores.ensures
+    (ap not c.if-not-tabled_stores.false) c.if-text-n.false
     c.bad_byte.ensures _ c.in-Reached.is c.unopened-in-Reached.ensures
 
 pub returns-in-Reached-long_line : goal.returns-in-Reached-long_line
 unfolding longest_line
 returns-in-Reached-long_line c =
-    line_refused _ _ _ ((lent c.args.text.now c.args.recall.now c.args.held.now c.args.side.now c.args.screen.now)) c.tabled_stores.ensures (ap not c.if-not-tabled_stores.false) c.if-text-n.false
+    line_refused _ _ _ (lent c.args.text.now c.args.recall.now c.args.held.now c.args.side.now c.args.screen.now) c.tabled_stores.ensures
+    (ap not c.if-not-tabled_stores.false) c.if-text-n.false
     c.bad_byte.ensures c.in-Nowhere.is c.long_line.ensures _ c.in-Reached-long_line.is
     c.unopened-in-Reached-long_line.ensures
 
@@ -42,5 +52,6 @@ pub returns-in-Nowhere-long_line : goal.returns-in-Nowhere-long_line
 unfolding longest_line
 returns-in-Nowhere-long_line c =
     c.open_sound.ensures
-    ∙ text-accepted _ _ _ ((lent c.args.text.now c.args.recall.now c.args.held.now c.args.side.now c.args.screen.now)) c.tabled_stores.ensures (ap not c.if-not-tabled_stores.false) c.if-text-n.false
+    ∙ text-accepted _ _ _ (lent c.args.text.now c.args.recall.now c.args.held.now c.args.side.now c.args.screen.now) c.tabled_stores.ensures
+    (ap not c.if-not-tabled_stores.false) c.if-text-n.false
     c.bad_byte.ensures c.in-Nowhere.is c.long_line.ensures c.in-Nowhere-long_line.is

@@ -7,7 +7,9 @@ pub open_stores-lengths-requires : goal.open_stores-lengths-requires
 open_stores-lengths-requires c = record { side_value = (tabled-facts _ _ _ c.requires.screen_value).stores; n_in_bounds = c.requires.n_in_bounds }
 
 pub refresh-requires : goal.refresh-requires
-refresh-requires c = let both = refresh-asked _ _ _ _ c.requires.screen_value c.requires.n_in_bounds c.open_stores-lengths.ensures c.open_stores-lengths.auto.side in record { texts = both.0; canvas = both.1 }
+refresh-requires c =
+    let both = refresh-asked _ _ _ _ c.requires.screen_value c.requires.n_in_bounds c.open_stores-lengths.ensures c.open_stores-lengths.auto.side in
+    record { texts = both.0; canvas = both.1 }
 
 pub returns : goal.returns
 returns c =

@@ -13,33 +13,46 @@ returns-then-not-tabled_stores c = refused-size _ _ _ (sym c.tabled_stores.ensur
 
 pub session_test-requires : goal.session_test-requires
 unfolding quarter
-session_test-requires c = (omega arith, (tabled-facts _ _ _ ((sym c.tabled_stores.ensures ∙ c.if-not-tabled_stores.false))).stores)
+session_test-requires c = (omega arith, (tabled-facts _ _ _ (sym c.tabled_stores.ensures ∙ c.if-not-tabled_stores.false)).stores)
 
 pub returns-in_default : goal.returns-in_default
 unfolding quarter
-returns-in_default c = refused-session _ _ _ ((sym c.tabled_stores.ensures ∙ c.if-not-tabled_stores.false)) (tested-none _ _ c.session_test.ensures c.in_default.is) _ c.turned_down-in_default.ensures
+returns-in_default c =
+    refused-session _ _ _ (sym c.tabled_stores.ensures ∙ c.if-not-tabled_stores.false) (tested-none _ _ c.session_test.ensures c.in_default.is) _
+    c.turned_down-in_default.ensures
 
 pub press_session-done-requires : goal.press_session-done-requires
 unfolding quarter
-press_session-done-requires c = (session-sound c.args.s ((lent c.args.text.now c.args.recall.now c.args.held.now c.args.side.now c.args.screen.now)) ((sym c.tabled_stores.ensures ∙ c.if-not-tabled_stores.false)) ((tested-session _ _ c.session_test.ensures c.in-Passed.is)).0)
+press_session-done-requires c =
+    (session-sound c.args.s (lent c.args.text.now c.args.recall.now c.args.held.now c.args.side.now c.args.screen.now)
+    (sym c.tabled_stores.ensures ∙ c.if-not-tabled_stores.false) (tested-session _ _ c.session_test.ensures c.in-Passed.is).0)
 
 pub returns-then-code-gt0 : goal.returns-then-code-gt0
 unfolding quarter
 returns-then-code-gt0 c =
-    press-refused c.args.s c.args.k ((lent c.args.text.now c.args.recall.now c.args.held.now c.args.side.now c.args.screen.now)) ((sym c.tabled_stores.ensures ∙ c.if-not-tabled_stores.false)) ((tested-session _ _ c.session_test.ensures c.in-Passed.is)).0 _ _ c.press_session-done.ensures c.if-code-gt0.true _
+    press-refused c.args.s c.args.k (lent c.args.text.now c.args.recall.now c.args.held.now c.args.side.now c.args.screen.now)
+    (sym c.tabled_stores.ensures ∙ c.if-not-tabled_stores.false) (tested-session _ _ c.session_test.ensures c.in-Passed.is).0 _ _
+    c.press_session-done.ensures c.if-code-gt0.true _
     c.turned_down-then-code-gt0.ensures
 
 pub newlines_now-below-requires : goal.newlines_now-below-requires
 unfolding quarter
 newlines_now-below-requires c =
-    let known = (press-done c.args.s c.args.k ((lent c.args.text.now c.args.recall.now c.args.held.now c.args.side.now c.args.screen.now)) ((sym c.tabled_stores.ensures ∙ c.if-not-tabled_stores.false)) ((tested-session _ _ c.session_test.ensures c.in-Passed.is)).0 _ _ c.press_session-done.ensures c.if-code-gt0.false) in
+    let known = (press-done c.args.s c.args.k (lent c.args.text.now c.args.recall.now c.args.held.now c.args.side.now c.args.screen.now)
+    (sym c.tabled_stores.ensures ∙ c.if-not-tabled_stores.false) (tested-session _ _ c.session_test.ensures c.in-Passed.is).0 _ _
+    c.press_session-done.ensures c.if-code-gt0.false) in
     let texts = texts-held _ _ _ _ _ known.sound in
-    record { l_in_bounds = omega (arith, texts.document); left_counted = λ other. counted-as ((tested-session _ _ c.session_test.ensures c.in-Passed.is)).1 (known.left other) }
+    record {
+      l_in_bounds = omega (arith, texts.document);
+      left_counted = λ other. counted-as (tested-session _ _ c.session_test.ensures c.in-Passed.is).1 (known.left other);
+    }
 
 pub show-requires : goal.show-requires
 unfolding quarter
 show-requires c =
-    let known = (press-done c.args.s c.args.k ((lent c.args.text.now c.args.recall.now c.args.held.now c.args.side.now c.args.screen.now)) ((sym c.tabled_stores.ensures ∙ c.if-not-tabled_stores.false)) ((tested-session _ _ c.session_test.ensures c.in-Passed.is)).0 _ _ c.press_session-done.ensures c.if-code-gt0.false) in
+    let known = (press-done c.args.s c.args.k (lent c.args.text.now c.args.recall.now c.args.held.now c.args.side.now c.args.screen.now)
+    (sym c.tabled_stores.ensures ∙ c.if-not-tabled_stores.false) (tested-session _ _ c.session_test.ensures c.in-Passed.is).0 _ _
+    c.press_session-done.ensures c.if-code-gt0.false) in
     let facts = tabled-facts _ _ _ known.fit in record {
       texts = texts-held _ _ _ _ _ known.sound;
       above_value = c.newlines_now-below.ensures;
@@ -61,5 +74,7 @@ shape_of-side c = c.press_session-done.auto.side
 pub returns : goal.returns
 unfolding quarter
 returns c =
-    let known = (press-done c.args.s c.args.k ((lent c.args.text.now c.args.recall.now c.args.held.now c.args.side.now c.args.screen.now)) ((sym c.tabled_stores.ensures ∙ c.if-not-tabled_stores.false)) ((tested-session _ _ c.session_test.ensures c.in-Passed.is)).0 _ _ c.press_session-done.ensures c.if-code-gt0.false) in
+    let known = (press-done c.args.s c.args.k (lent c.args.text.now c.args.recall.now c.args.held.now c.args.side.now c.args.screen.now)
+    (sym c.tabled_stores.ensures ∙ c.if-not-tabled_stores.false) (tested-session _ _ c.session_test.ensures c.in-Passed.is).0 _ _
+    c.press_session-done.ensures c.if-code-gt0.false) in
     c.show.ensures _ _ known.sound known.fit ∙ known.shows

@@ -8,20 +8,32 @@ pub cursor-spot-requires : goal.cursor-spot-requires
 cursor-spot-requires c = record { has_texts = (_, le_refl _, c.requires.texts); above_value = c.requires.above_value }
 
 pub follow-g-requires : goal.follow-g-requires
-follow-g-requires c = row-from-one (virtual_held c.args.done.lengths c.args.text.now c.args.side.now) _ ((c.cursor-spot.ensures _ c.requires.texts))
+follow-g-requires c = row-from-one (virtual_held c.args.done.lengths c.args.text.now c.args.side.now) _ (c.cursor-spot.ensures _ c.requires.texts)
 
 pub refresh-rows-requires : goal.refresh-rows-requires
-refresh-rows-requires c = record { texts = c.requires.texts; canvas = (shown-canvas _ _ _ _ c.args.screen.now c.requires.texts c.requires.w_value.0 c.requires.w_value.1 _ ((c.cursor-spot.ensures _ c.requires.texts)) _ c.follow-g.ensures, still-visible _ _ _ _ c.args.screen.now c.requires.texts c.requires.w_value.0 c.requires.w_value.1 _ ((c.cursor-spot.ensures _ c.requires.texts)) _ c.follow-g.ensures) }
+refresh-rows-requires c =
+    record {
+      texts = c.requires.texts;
+      canvas = (
+        shown-canvas _ _ _ _ c.args.screen.now c.requires.texts c.requires.w_value.0 c.requires.w_value.1 _
+            (c.cursor-spot.ensures _ c.requires.texts) _ c.follow-g.ensures,
+        still-visible _ _ _ _ c.args.screen.now c.requires.texts c.requires.w_value.0
+            c.requires.w_value.1 _ (c.cursor-spot.ensures _ c.requires.texts) _ c.follow-g.ensures,
+      );
+    }
 
 pub overflow_sub-result : goal.overflow_sub-result
 overflow_sub-result c =
-    offset-row _ _ _ _ c.args.screen.now c.requires.texts c.requires.w_value.0 c.requires.w_value.1 _ ((c.cursor-spot.ensures _ c.requires.texts)) _ c.follow-g.ensures
+    offset-row _ _ _ _ c.args.screen.now c.requires.texts c.requires.w_value.0 c.requires.w_value.1 _ (c.cursor-spot.ensures _ c.requires.texts) _
+    c.follow-g.ensures
 
 pub overflow_sub-result-2 : goal.overflow_sub-result-2
 overflow_sub-result-2 c =
-    offset-column _ _ _ _ c.args.screen.now c.requires.texts c.requires.w_value.0 c.requires.w_value.1 _ ((c.cursor-spot.ensures _ c.requires.texts)) _ c.follow-g.ensures
+    offset-column _ _ _ _ c.args.screen.now c.requires.texts c.requires.w_value.0 c.requires.w_value.1 _ (c.cursor-spot.ensures _ c.requires.texts) _
+    c.follow-g.ensures
 
 pub returns : goal.returns
 returns c =
     λ recall held sound fit.
-    shows-so _ _ _ _ _ c.requires.texts c.requires.w_value.0 c.requires.w_value.1 _ ((c.cursor-spot.ensures _ c.requires.texts)) _ c.follow-g.ensures _ _ _ c.refresh-rows.ensures recall held sound
+    shows-so _ _ _ _ _ c.requires.texts c.requires.w_value.0 c.requires.w_value.1 _ (c.cursor-spot.ensures _ c.requires.texts) _ c.follow-g.ensures _
+    _ _ c.refresh-rows.ensures recall held sound

@@ -9,8 +9,9 @@ pub returns-then-not-rows_and_columns : goal.returns-then-not-rows_and_columns
 returns-then-not-rows_and_columns c = not-tabled _ _ _ (sym c.rows_and_columns.ensures ∙ c.if-not-rows_and_columns.true)
 
 pub overflow_mul-result : goal.overflow_mul-result
-overflow_mul-result c = record { fits = omega (arith, product_small c.args.h c.args.w ((sym c.rows_and_columns.ensures ∙ c.if-not-rows_and_columns.false))) }
+overflow_mul-result c =
+    record { fits = omega (arith, product_small c.args.h c.args.w (sym c.rows_and_columns.ensures ∙ c.if-not-rows_and_columns.false)) }
 
 pub returns : goal.returns
 unfolding quarter
-returns c = tabled-so _ _ _ _ c.sized_stores.ensures ((sym c.rows_and_columns.ensures ∙ c.if-not-rows_and_columns.false))
+returns c = tabled-so _ _ _ _ c.sized_stores.ensures (sym c.rows_and_columns.ensures ∙ c.if-not-rows_and_columns.false)

@@ -12,18 +12,24 @@ returns-then-not-convertible_stores c = size-refused _ _ _ (sym c.convertible_st
 
 pub session_test-requires : goal.session_test-requires
 unfolding old_quarter quarter
-session_test-requires c = (omega arith, old-sized c.args.s _ _ ((sym c.convertible_stores.ensures ∙ c.if-not-convertible_stores.false)))
+session_test-requires c = (omega arith, old-sized c.args.s _ _ (sym c.convertible_stores.ensures ∙ c.if-not-convertible_stores.false))
 
 pub returns-in_default : goal.returns-in_default
 unfolding old_quarter
-returns-in_default c = session-refused _ _ _ ((sym c.convertible_stores.ensures ∙ c.if-not-convertible_stores.false)) (tested-not _ _ _ c.session_test.ensures c.in_default.is) c.answered-in_default.ensures
+returns-in_default c =
+    session-refused _ _ _ (sym c.convertible_stores.ensures ∙ c.if-not-convertible_stores.false)
+    (tested-not _ _ _ c.session_test.ensures c.in_default.is) c.answered-in_default.ensures
 
 pub lengthen-requires : goal.lengthen-requires
 unfolding old_quarter
-lengthen-requires c = let both = lengthen-asked _ _ _ ((sym c.convertible_stores.ensures ∙ c.if-not-convertible_stores.false)) (tested-so _ _ _ c.session_test.ensures c.in-Passed.is).0 in record { len = both.0; r_bound = both.1 }
+lengthen-requires c =
+    let both = lengthen-asked _ _ _ (sym c.convertible_stores.ensures ∙ c.if-not-convertible_stores.false)
+    (tested-so _ _ _ c.session_test.ensures c.in-Passed.is).0 in
+    record { len = both.0; r_bound = both.1 }
 
 pub returns : goal.returns
 unfolding old_quarter
 returns c =
-    lengthened-done _ _ _ ((sym c.convertible_stores.ensures ∙ c.if-not-convertible_stores.false)) (tested-so _ _ _ c.session_test.ensures c.in-Passed.is).0 c.answered-2.ensures
+    lengthened-done _ _ _ (sym c.convertible_stores.ensures ∙ c.if-not-convertible_stores.false)
+    (tested-so _ _ _ c.session_test.ensures c.in-Passed.is).0 c.answered-2.ensures
     c.lengthen.ensures

@@ -15,7 +15,14 @@ returns-then-m-l c = left-lost _ _ _ _ _ c.requires.left_counted c.if-m-l.true
 
 -- A sum is the number of newlines in a part of the store, so it does not wrap.
 pub overflow_add-result : goal.overflow_add-result
-overflow_add-result c = omega (arith, (let longer = ltb c.args.was.l c.args.done.lengths.main.l in left-told _ _ _ _ _ c.requires.left_counted (ltb-true _ _ (and_left longer _ c.if-l-m.true)) (ltb-true _ _ (and_right longer _ c.if-l-m.true))), front-newlines c.args.done.lengths.main.l c.args.text.now)
+overflow_add-result c =
+    omega (
+      arith,
+      (let longer = ltb c.args.was.l c.args.done.lengths.main.l in left-told _ _ _ _ _ c.requires.left_counted
+          (ltb-true _ _ (and_left longer _ c.if-l-m.true)) (ltb-true _ _ (and_right longer _ c.if-l-m.true))),
+      front-newlines c.args.done.lengths.main.l
+          c.args.text.now,
+    )
 
 pub returns-then-l-m : goal.returns-then-l-m
 returns-then-l-m c =
@@ -23,7 +30,13 @@ returns-then-l-m c =
     left-told _ _ _ _ _ c.requires.left_counted (ltb-true _ _ (and_left longer _ c.if-l-m.true)) (ltb-true _ _ (and_right longer _ c.if-l-m.true))
 
 pub overflow_add-result-2 : goal.overflow_add-result-2
-overflow_add-result-2 c = omega (arith, (left-gained _ _ _ _ _ _ c.requires.left_counted c.if-m-l.false c.count_newlines.ensures), front-newlines c.args.done.lengths.main.l c.args.text.now)
+overflow_add-result-2 c =
+    omega (
+      arith,
+      (left-gained _ _ _ _ _ _ c.requires.left_counted c.if-m-l.false c.count_newlines.ensures),
+      front-newlines c.args.done.lengths.main.l
+          c.args.text.now,
+    )
 
 pub returns : goal.returns
 returns c = left-gained _ _ _ _ _ _ c.requires.left_counted c.if-m-l.false c.count_newlines.ensures

@@ -6,4 +6,5 @@ pub newlines_left-requires : goal.newlines_left-requires
 newlines_left-requires c = c.requires.l_in_bounds
 
 pub newlines_after-requires : goal.newlines_after-requires
-newlines_after-requires c = record { l_in_bounds = c.requires.l_in_bounds; left_counted = c.requires.left_counted (sym c.is_cut.ensures ∙ c.if-is_cut.false) }
+newlines_after-requires c =
+    record { l_in_bounds = c.requires.l_in_bounds; left_counted = c.requires.left_counted (sym c.is_cut.ensures ∙ c.if-is_cut.false) }

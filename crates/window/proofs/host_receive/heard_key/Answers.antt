@@ -8,7 +8,8 @@ returns-in-Insert c = rw (c.in-Insert.is, c.heard_numbers.ensures)
 
 pub returns-in-Function : goal.returns-in-Function
 unfolding heard_key
-returns-in-Function c = rw (c.in-Function.is, c.heard_numbers-in-Function.ensures, c.action_number.ensures, c.direction_number.ensures, c.place_number.ensures)
+returns-in-Function c =
+    rw (c.in-Function.is, c.heard_numbers-in-Function.ensures, c.action_number.ensures, c.direction_number.ensures, c.place_number.ensures)
 
 pub returns-in-Recall : goal.returns-in-Recall
 unfolding heard_key

@@ -28,7 +28,9 @@ pub slice_bounds-draw_run-end : goal.slice_bounds-draw_run-end
 slice_bounds-draw_run-end c = line-inside _ _ c.end_at-e.ensures c.loop-i.invariant.within
 
 pub draw_run-drawn-requires : goal.draw_run-drawn-requires
-draw_run-drawn-requires c = let both = run-asks (drawn-in-row c.loop-i.invariant c.if-bottom-y.false) (ends-unbroken _ _ c.loop-i.invariant.within c.end_at-e.ensures) in record { run_value = both.0; easel = both.1.0; pen_value = both.1.1 }
+draw_run-drawn-requires c =
+    let both = run-asks (drawn-in-row c.loop-i.invariant c.if-bottom-y.false) (ends-unbroken _ _ c.loop-i.invariant.within c.end_at-e.ensures) in
+    record { run_value = both.0; easel = both.1.0; pen_value = both.1.1 }
 
 pub shape_of-screen-then-n-e : goal.shape_of-screen-then-n-e
 shape_of-screen-then-n-e c =
@@ -45,7 +47,9 @@ returns-then-n-e c =
 pub end_row-now-requires : goal.end_row-now-requires
 end_row-now-requires c =
     let row = drawn-in-row c.loop-i.invariant c.if-bottom-y.false in
-    let run = drawn-run row (ends-unbroken _ _ c.loop-i.invariant.within c.end_at-e.ensures) c.draw_run-drawn.ensures in let both = line-asks run c.if-n-e.false in record { easel = both.0; pen_value = both.1 }
+    let run = drawn-run row (ends-unbroken _ _ c.loop-i.invariant.within c.end_at-e.ensures) c.draw_run-drawn.ensures in
+    let both = line-asks run c.if-n-e.false in
+    record { easel = both.0; pen_value = both.1 }
 
 pub overflow_add-i : goal.overflow_add-i
 overflow_add-i c = omega (arith, c.if-n-e.false)

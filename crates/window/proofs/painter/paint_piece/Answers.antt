@@ -36,7 +36,9 @@ pub slice_bounds-draw-start : goal.slice_bounds-draw-start
 slice_bounds-draw-start c = c.line_start-at.ensures.within
 
 pub draw-requires-2 : goal.draw-requires-2
-draw-requires-2 c = let both = piece-asked ((first-line _ _ _ c.count_newlines.ensures c.if-r-y.false c.if-below-r.false c.line_start-at.ensures)) c.requires in record { easel = both.0; pen_value = both.1 }
+draw-requires-2 c =
+    let both = piece-asked (first-line _ _ _ c.count_newlines.ensures c.if-r-y.false c.if-below-r.false c.line_start-at.ensures) c.requires in
+    record { easel = both.0; pen_value = both.1 }
 
 pub returns : goal.returns
-returns c = c.draw-2.ensures ∙ piece-painted ((first-line _ _ _ c.count_newlines.ensures c.if-r-y.false c.if-below-r.false c.line_start-at.ensures))
+returns c = c.draw-2.ensures ∙ piece-painted (first-line _ _ _ c.count_newlines.ensures c.if-r-y.false c.if-below-r.false c.line_start-at.ensures)

@@ -9,7 +9,8 @@ pub returns-then-not-rows_and_columns : goal.returns-then-not-rows_and_columns
 returns-then-not-rows_and_columns c = not-sendable _ _ _ _ _ _ _ (sym c.rows_and_columns.ensures ∙ c.if-not-rows_and_columns.true)
 
 pub overflow_mul-result : goal.overflow_mul-result
-overflow_mul-result c = record { fits = omega (arith, product_small c.args.h c.args.w ((sym c.rows_and_columns.ensures ∙ c.if-not-rows_and_columns.false))) }
+overflow_mul-result c =
+    record { fits = omega (arith, product_small c.args.h c.args.w (sym c.rows_and_columns.ensures ∙ c.if-not-rows_and_columns.false)) }
 
 pub returns : goal.returns
-returns c = sendable-so _ _ _ _ _ _ _ ((sym c.rows_and_columns.ensures ∙ c.if-not-rows_and_columns.false)) c.rows_on.ensures c.cursor_on.ensures
+returns c = sendable-so _ _ _ _ _ _ _ (sym c.rows_and_columns.ensures ∙ c.if-not-rows_and_columns.false) c.rows_on.ensures c.cursor_on.ensures

@@ -6,7 +6,11 @@ pub returns-then-out-size : goal.returns-then-out-size
 returns-then-out-size c = room-refused _ _ _ _ _ _ _ c.requires c.sent_size-size.ensures c.if-out-size.true c.unsent.ensures
 
 pub write_screen-count-requires : goal.write_screen-count-requires
-write_screen-count-requires c = record { rows_in = c.requires; column_in_bounds = room-enough _ _ _ _ _ _ c.args.out.now c.requires c.sent_size-size.ensures c.if-out-size.false c.sent_column-column.ensures }
+write_screen-count-requires c =
+    record {
+      rows_in = c.requires;
+      column_in_bounds = room-enough _ _ _ _ _ _ c.args.out.now c.requires c.sent_size-size.ensures c.if-out-size.false c.sent_column-column.ensures;
+    }
 
 pub returns : goal.returns
 returns c =

@@ -16,7 +16,12 @@ overflow_add-first c = record { fits = omega (arith, row_inside c.requires.rows_
 
 pub put_row-next-requires : goal.put_row-next-requires
 unfolding sent_rows
-put_row-next-requires c = record { above_bound = row_inside c.requires.rows_in c.row_count-rows.ensures c.loop-i-test.true; above_in_bounds = rw (row_number c.requires.rows_in c.row_count-rows.ensures c.loop-i-test.true) (sent-room c.loop-i.invariant c.loop-i-test.true (rw c.row_count-rows.ensures c.requires.screen_in_bounds)) }
+put_row-next-requires c =
+    record {
+      above_bound = row_inside c.requires.rows_in c.row_count-rows.ensures c.loop-i-test.true;
+      above_in_bounds = rw (row_number c.requires.rows_in c.row_count-rows.ensures c.loop-i-test.true)
+          (sent-room c.loop-i.invariant c.loop-i-test.true (rw c.row_count-rows.ensures c.requires.screen_in_bounds));
+    }
 
 pub loop-i-preserved : goal.loop-i-preserved
 loop-i-preserved c =

@@ -16,13 +16,28 @@ overflow_add-first c =
     }
 
 pub overflow_add-size : goal.overflow_add-size
-overflow_add-size c = record { fits = omega (arith, (spot-small c.args.w c.args.first c.args.last c.requires.0 c.requires.1 c.row_count-rows.ensures c.loop-i-test.true c.spot_size.ensures)) }
+overflow_add-size c =
+    record {
+      fits = omega (
+        arith,
+        (spot-small c.args.w c.args.first c.args.last c.requires.0 c.requires.1 c.row_count-rows.ensures c.loop-i-test.true
+            c.spot_size.ensures),
+      );
+    }
 
 pub overflow_add-size-in-loop-i : goal.overflow_add-size-in-loop-i
 overflow_add-size-in-loop-i c =
     let so_far = rows-small c.args.w c.args.first c.args.last c.requires.0 c.requires.1
     c.row_count-rows.ensures c.loop-i.i c.loop-i.invariant.0 c.requires.2
-    in record { fits = omega (arith, (spot-small c.args.w c.args.first c.args.last c.requires.0 c.requires.1 c.row_count-rows.ensures c.loop-i-test.true c.spot_size.ensures), so_far, c.loop-i.invariant.1) }
+    in record {
+      fits = omega (
+        arith,
+        (spot-small c.args.w c.args.first c.args.last c.requires.0 c.requires.1 c.row_count-rows.ensures c.loop-i-test.true
+            c.spot_size.ensures),
+        so_far,
+        c.loop-i.invariant.1,
+      );
+    }
 
 pub loop-i-preserved : goal.loop-i-preserved
 loop-i-preserved c = (omega arith, size-more _ _ _ c.loop-i.invariant.1 c.spot_size.ensures)
