@@ -1,3 +1,3 @@
--- Laws about the definitions, the theorems that docs/PROVED.md names, and what the walks of writer.rt share.
+-- Laws about the definitions, and the theorems that docs/PROVED.md names.
 pub mod Laws
 pub mod Theorems

@@ -1,5 +1,5 @@
-// A writer holds the lent buffer and its fill mark. It is taken apart and handed to the plain functions on the slice and the index;
-// `write_screen`, with plain parameters, serves every caller.
+// A writer holds the lent buffer and its fill mark, and hands both to the plain functions on the slice and the index; `write_screen`, with
+// plain parameters, serves every caller.
 ghost use Rattle.std.specs.Prelude.{◌≡◌, ◌++◌, ◌+◌, ◌≤◌, length};
 ghost use Rattle.gap.specs.Wording.Written.{Wrote};
 ghost use Rattle.window.specs.Rules.Sequences.{sent_spot, sent_rows};

@@ -159,8 +159,8 @@ module _ (s : List ℕ) (at : ℕ) {end : ℕ} where
 
 -- The newlines before a line are no more than there are bytes, and one more is the line's number.
 module _ (s : List ℕ) (at : ℕ) {n : ℕ} (counted : n ≡ newlines (take at s)) where
-  pub lines_fit : n ≤ length s
-  lines_fit = omega (arith, front-newlines at s)
+  pub lines_fit_lem : n ≤ length s
+  lines_fit_lem = omega (arith, front-newlines at s)
 
   pub line-numbered : n + 1 ≡ line_number s at
   unfolding line_number

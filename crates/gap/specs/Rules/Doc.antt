@@ -45,7 +45,7 @@ unfoldable pub removed : Direction → ℕ → Doc → Doc
 removed Left n d = record { l = passed Left n d; r = [] }
 removed Right n d = record { l = []; r = passed Right n d }
 
--- One change around the cursor: l loses its last a bytes and gains x .l behind, r loses its first b bytes and gains x .r before.
+-- One change around the cursor: l loses its last a bytes and gains x.l behind, r loses its first b bytes and gains x.r before.
 -- Insertion, RECALL and REPLACE are such changes; n deletions are one too (deletions-left, deletions-right in proofs/Laws/Doc).
 unfoldable pub splice : ℕ → ℕ → Doc → Doc → Doc
 splice a b x d = record { l = take (length d.l - a) d.l ++ x.l; r = x.r ++ drop b d.r }

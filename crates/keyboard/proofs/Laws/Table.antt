@@ -24,9 +24,9 @@ module _ (front : List ℕ) (b : ℕ) where
   NoneOf told [] = told
   NoneOf told (k ∷ ks) = NoneOf (told × (b ≡ get_or (bytes_of k) (length front) 0 → ⊥)) ks
 
-  last_of : (s : List ℕ) → get_or (s ++ (b ∷ [])) (length s) 0 ≡ b
-  last_of [] = refl
-  last_of (a ∷ s) = last_of s
+  last_of_lem : (s : List ℕ) → get_or (s ++ (b ∷ [])) (length s) 0 ≡ b
+  last_of_lem [] = refl
+  last_of_lem (a ∷ s) = last_of_lem s
 
   pub unlisted : (told : Type 0) (ks : List Key) → NoneOf told ks
       → told × (key_among (front ++ (b ∷ [])) ks ≡ Refused SEQUENCE (length (front ++ (b ∷ []))))
@@ -35,7 +35,7 @@ module _ (front : List ℕ) (b : ℕ) where
   unlisted told (k ∷ ks) none =
       let (both, later) = unlisted (told × (b ≡ get_or (bytes_of k) (length front) 0 → ⊥)) ks none in
       let other = ⊎_elim
-      (λ same. absurd (both.1 (sym (last_of front) ∙ ap (λ s. get_or s (length front) 0) (same-equal _ (bytes_of k) same))))
+      (λ same. absurd (both.1 (sym (last_of_lem front) ∙ ap (λ s. get_or s (length front) 0) (same-equal _ (bytes_of k) same))))
       (λ differs. differs)
       (decided (same_bytes (front ++ (b ∷ [])) (bytes_of k))) in
       (both.0, cond-false _ _ other ∙ later)

@@ -112,8 +112,8 @@ module _ (c w x : ℕ) where
       → (x < c) × (i ≡ c - (x + 1)) × (k ≡ c + w - (x + 1 + i)) × (min (x + 1 - c) w ≡ min (x - c) w)
   left-of i k ei ek = omega arith
 
-  right_of : 0 ≡ c - x → 0 ≡ c + w - (x + 0) → (c + w ≤ x) × (0 ≡ c - (x + 1)) × (0 ≡ c + w - (x + 1 + 0))
-  right_of ei ek = omega arith
+  right_of_lem : 0 ≡ c - x → 0 ≡ c + w - (x + 0) → (c + w ≤ x) × (0 ≡ c - (x + 1)) × (0 ≡ c + w - (x + 1 + 0))
+  right_of_lem ei ek = omega arith
 
   between : (k : ℕ) → 0 ≡ c - x → suc k ≡ c + w - (x + 0)
       → (c ≤ x) × (x < c + w) × (0 ≡ c - (x + 1)) × (k ≡ c + w - (x + 1 + 0))
@@ -137,7 +137,7 @@ module _ (f : Frame) where
       ∙ along-put (length u) (next_cell f (along 1 p).pen) (take k (drop i u)) p
       ∙ ap (λ n. along (suc (length u)) (put ((p.pen.y - f.r) * f.w + n) (take k (drop i u)) p)) numbers.3
   run-painted (b ∷ u) p zero zero h unbroken ei ek =
-      let numbers = right_of f.c f.w p.pen.x ei ek in
+      let numbers = right_of_lem f.c f.w p.pen.x ei ek in
       run-letter f b u p unbroken
       ∙ ap (paint f u) (letter-right f p h b numbers.0)
       ∙ run-painted u (along 1 p) 0 0 h (run-rest b u unbroken) numbers.1 numbers.2

@@ -103,14 +103,14 @@ module _ {W first last : ℕ} {screen : List ℕ} (within : RowsIn W first last 
   pub some_first : 1 ≤ first
   some_first = ⊎_elim (λ none. omega arith) (λ some. some.0) (count first last)
 
-  pub row_number : first - 1 + i + 1 ≡ first + i
-  row_number = omega (arith, some_first)
+  pub row_number_lem : first - 1 + i + 1 ≡ first + i
+  row_number_lem = omega (arith, some_first)
 
   pub row_inside : (first - 1 + i < 64) × ((first - 1 + i) * W + W ≤ length screen)
   row_inside =
       let here = named-row first last named more in
-      let end : suc (first - 1 + i) * W ≤ last * W = mul-le-mul_right W (omega (arith, row_number)) in
-      omega (arith, within.few, within.inside, row_number, suc-mul (first - 1 + i) W)
+      let end : suc (first - 1 + i) * W ≤ last * W = mul-le-mul_right W (omega (arith, row_number_lem)) in
+      omega (arith, within.few, within.inside, row_number_lem, suc-mul (first - 1 + i) W)
 
 -- ---- Rows one behind the other
 

@@ -2,14 +2,14 @@
 use mathlib.Core.Path.{sym}
 use native.Mathlib.Omega.{arith}
 use lib.Seq.{length-take-le}
-use Rattle.gap.proofs.Laws.LinePlaces.{lines_fit, line-numbered}
+use Rattle.gap.proofs.Laws.LinePlaces.{lines_fit_lem, line-numbered}
 use Rattle.gap.proofs.fields.line_number.Goals as goal
 
 pub slice_bounds-count_newlines-end : goal.slice_bounds-count_newlines-end
 slice_bounds-count_newlines-end c = sym (length-take-le _ _ c.requires)
 
 pub overflow_add-result : goal.overflow_add-result
-overflow_add-result c = omega (arith, lines_fit c.args.s.now c.args.at c.count_newlines.ensures)
+overflow_add-result c = omega (arith, lines_fit_lem c.args.s.now c.args.at c.count_newlines.ensures)
 
 pub returns : goal.returns
 returns c = line-numbered _ _ c.count_newlines.ensures

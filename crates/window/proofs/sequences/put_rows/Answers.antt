@@ -2,7 +2,7 @@
 use native.Mathlib.Omega.{arith}
 use Rattle.gap.proofs.Laws.Writers.{wrote-length}
 use Rattle.window.specs.Rules.Sequences.{sent_rows}
-use Rattle.window.proofs.Laws.Sequences.{some_first, row_number, row_inside, sent-none, sent-room, sent-more, sent-all}
+use Rattle.window.proofs.Laws.Sequences.{some_first, row_number_lem, row_inside, sent-none, sent-room, sent-more, sent-all}
 use Rattle.window.proofs.sequences.put_rows.Goals as goal
 
 pub loop-i-init : goal.loop-i-init
@@ -19,13 +19,13 @@ unfolding sent_rows
 put_row-next-requires c =
     record {
       above_bound = row_inside c.requires.rows_in c.row_count-rows.ensures c.loop-i-test.true;
-      above_in_bounds = rw (row_number c.requires.rows_in c.row_count-rows.ensures c.loop-i-test.true)
+      above_in_bounds = rw (row_number_lem c.requires.rows_in c.row_count-rows.ensures c.loop-i-test.true)
           (sent-room c.loop-i.invariant c.loop-i-test.true (rw c.row_count-rows.ensures c.requires.screen_in_bounds));
     }
 
 pub loop-i-preserved : goal.loop-i-preserved
 loop-i-preserved c =
-    let number = row_number c.requires.rows_in c.row_count-rows.ensures c.loop-i-test.true in
+    let number = row_number_lem c.requires.rows_in c.row_count-rows.ensures c.loop-i-test.true in
     sent-more c.loop-i.invariant c.loop-i-test.true (rw number at c.put_row-next.ensures)
 
 pub shape_of-out : goal.shape_of-out
