@@ -1,7 +1,8 @@
 -- What the painter does, byte by byte: it writes the cells of the window in the screen's order, each once, and notes the rows in which
 -- a cell was another one before. That this gives the window and the named rows is proved in proofs/Laws/Painter.
 use Rattle.window.specs.Words.{Frame}
-use Rattle.std.specs.Prelude.{◌≡◌, min, ◌^◌, ◌≤◌, ◌<◌, replicate, List, [], ◌∷◌, Bool, false, not, ◌&&◌, ◌||◌, cond, ℕ, ◌+◌, ◌-◌, ◌*◌, eqb, leb, ltb, length, take}
+use Rattle.std.specs.Prelude.{◌≡◌, ◌≤◌, ◌<◌, Bool, false, not, ◌&&◌, ◌||◌, cond, ℕ, ◌+◌, ◌-◌, ◌*◌, ◌^◌, min, eqb, leb, ltb}
+use Rattle.std.specs.Prelude.{List, [], ◌∷◌, length, take, replicate}
 use Rattle.gap.specs.Rules.Sequence.{same_bytes, part, patch}
 use Rattle.gap.specs.Rules.Doc.{times}
 use Rattle.gap.specs.Rules.Lines.{newline, newlines, since_after}
