@@ -8,7 +8,7 @@ def read(f):
         if l.startswith('# pin: '): pin=l[7:].split()
     return what,at,pin
 defs=[];code=[];n=0
-for crate in ('gap','editor','keyboard','window','bench'):
+for crate in ('gap','editor','keyboard','window','window_c','bench'):
     fs=sorted(list((root/'edits'/crate).glob('*.edit'))+list((root/'crates'/crate/'must-fail').glob('*.edit')),key=lambda f:f.stem)
     for f in fs:
         what,at,pin=read(f); n+=1

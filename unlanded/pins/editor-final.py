@@ -1,5 +1,5 @@
 import subprocess,re,shutil,sys,pathlib,os
-base=pathlib.Path('/tmp/m101mut/'+'ab'[int(sys.argv[1])])
+base=pathlib.Path(os.environ['TRIALS'])/'ab'[int(sys.argv[1])]
 M='specs/Rules/Marks.antt';K='specs/Rules/Keys.antt';B='specs/Rules/Bytes.antt';P='specs/Rules/Plain.antt'
 muts=[
 ('insertion at it moves it 2',M,'cond (leb m from) (At m) (cond (ltb m (from + gone)) Unmarked (cond (eqb m (from + gone)) (At from) (At (m - gone + come))))','cond (ltb m from) (At m) (cond (ltb m (from + gone)) Unmarked (At (m - gone + come)))'),
@@ -144,7 +144,7 @@ only=[]
 for name,f,old,new in work[K0::2]:
     if only and not any(o in name for o in only): continue
     path=base/'crates/editor'/f
-    orig=pathlib.Path('/work/trees/m101-tables/crates/editor',f).read_text()
+    orig=pathlib.Path(os.environ['FROM'],f).read_text()
     if orig.count(old)!=1:
         print('BAD',orig.count(old),name,flush=True);continue
     t=orig.replace(old,new)

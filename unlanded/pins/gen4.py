@@ -1,3 +1,4 @@
+import os
 import pathlib
 N='specs/Rules/Names.antt'; S='specs/Rules/Script.antt'; P='specs/Rules/Print.antt'; R='specs/Rules/Run.antt'
 E=[]
@@ -109,7 +110,7 @@ for name, what, file, pairs in E:
         t += f'old: {old}\nnew: {new}\n' if new else f'old: {old}\nnew:\n'
     pathlib.Path('bench2', name + '.edit').write_text(t)
 # each fits
-src = pathlib.Path('/work/pins/crates/bench')
+src = pathlib.Path(os.environ['FROM'])
 for name, what, file, pairs in E:
     t = (src/file).read_text()
     for old,new in pairs:

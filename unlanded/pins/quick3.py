@@ -1,11 +1,11 @@
-import sys, pathlib, shutil, subprocess, time, re, importlib.machinery, importlib.util
-loader = importlib.machinery.SourceFileLoader('edits', '/tmp/pins/edits')
+import os, sys, pathlib, shutil, subprocess, time, re, importlib.machinery, importlib.util
+PINS = pathlib.Path(os.environ['PINS'])
+loader = importlib.machinery.SourceFileLoader('edits', str(PINS / 'edits'))
 spec = importlib.util.spec_from_loader('edits', loader); m = importlib.util.module_from_spec(spec); loader.exec_module(m)
-root = pathlib.Path('/tmp/pins/strip'); crate = root / 'crates/bench'; clean = pathlib.Path('/tmp/pins/clean'); warm = pathlib.Path('/tmp/pins/warm')
+root = PINS / 'strip'; crate = root / 'crates/bench'; clean = PINS / 'clean'; warm = PINS / 'warm'
 inc = root / 'target/inc/bench'
-src = pathlib.Path('/tmp/pins/snap')
-import os
-if not os.environ.get('NOBASE'): shutil.rmtree(src, ignore_errors=True); shutil.copytree(os.environ.get('FROM', '/work/pins/crates/bench'), src)
+src = PINS / 'snap'
+if not os.environ.get('NOBASE'): shutil.rmtree(src, ignore_errors=True); shutil.copytree(os.environ['FROM'], src)
 def restore():
     for part in ('specs', 'proofs'):
         shutil.rmtree(crate / part, ignore_errors=True)
@@ -26,7 +26,7 @@ if status != 0:
     print('\n'.join(f'  {f.file}:{f.line} {f.declaration}: {f.words[:900]}' for f in m.refused_facts(said, crate)) or said[-1500:]); sys.exit(1)
 if base:
     shutil.rmtree(warm, ignore_errors=True); subprocess.run(['cp', '-al', inc, warm], check=True)
-files = sorted(pathlib.Path('/tmp/pins/bench2').glob('*.edit'))
+files = sorted((PINS / 'bench2').glob('*.edit'))
 wanted = [f for f in files if not sys.argv[1:] or any(f.stem.startswith(w) for w in sys.argv[1:])]
 if sys.argv[1:]: wanted.sort(key=lambda f: min(i for i, w in enumerate(sys.argv[1:]) if f.stem.startswith(w)))
 count = {}
@@ -38,7 +38,7 @@ for file in wanted:
         print(edit.name, 'BAD', why, flush=True); restore(); continue
     shutil.rmtree(inc, ignore_errors=True); subprocess.run(['cp', '-al', warm, inc], check=True)
     status, said = dev()
-    pathlib.Path('/tmp/pins/out').mkdir(exist_ok=True); pathlib.Path('/tmp/pins/out', edit.name + '.quick').write_text(said)
+    (PINS / 'out').mkdir(exist_ok=True); (PINS / 'out' / (edit.name + '.quick')).write_text(said)
     facts = m.refused_facts(said, crate)
     pins = [f for f in facts if f.file.startswith('proofs/Theorems/')]
     bad = [f for f in facts if not f.file.startswith('proofs/')]
