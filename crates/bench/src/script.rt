@@ -4,7 +4,6 @@ ghost use Rattle.bench.specs.Rules.Script.{text_there, heading_of, key_of, readi
 
 use crate::table::key_named;
 use crate::{Header, Heading, Naming, Reading};
-use gap::Number;
 use gap::compare::begins_with;
 use gap::fields::{header_at, next_at};
 use gap::lines::end_at;
@@ -30,19 +29,19 @@ fn text_there(s: &[u8], at: usize, n: usize) -> bool
 pub fn heading_of(s: &[u8]) -> Heading
     ensures { result ≡ heading_of s.now }
 {
-    let Number::Read(rows) = header_at(b"rows=", DIGITS, s, 0) else {
+    let Some(rows) = header_at(b"rows=", DIGITS, s, 0) else {
         return Heading::Broken(1);
     };
     let second = next_at(s, 0);
-    let Number::Read(columns) = header_at(b"cols=", DIGITS, s, second) else {
+    let Some(columns) = header_at(b"cols=", DIGITS, s, second) else {
         return Heading::Broken(2);
     };
     let third = next_at(s, second);
-    let Number::Read(store) = header_at(b"store=", DIGITS, s, third) else {
+    let Some(store) = header_at(b"store=", DIGITS, s, third) else {
         return Heading::Broken(3);
     };
     let fourth = next_at(s, third);
-    let Number::Read(n) = header_at(b"text=", DIGITS, s, fourth) else {
+    let Some(n) = header_at(b"text=", DIGITS, s, fourth) else {
         return Heading::Broken(4);
     };
     let at = next_at(s, fourth);

@@ -8,7 +8,7 @@ use crate::{Entry, Naming};
 use editor::Key;
 use gap::compare::{begins_with, same_bytes};
 use gap::decimals::number_of;
-use gap::{Direction, Number};
+use gap::Direction;
 use window::host_keys::function_key;
 
 // Actions, directions and places by the numbers that the host's boundary gives them: a table of enum values would take the checker
@@ -218,10 +218,10 @@ fn function_named(name: &[u8]) -> Naming
 }
 
 // The insert of this number.
-fn insert_numbered(n: Number) -> Naming
+fn insert_numbered(n: Option<usize>) -> Naming
     ensures { result ≡ insert_numbered n }
 {
-    let Number::Read(value) = n else {
+    let Some(value) = n else {
         return Naming::Unnamed;
     };
     if 255 < value {

@@ -10,7 +10,7 @@ ghost use Rattle.editor.specs.Rules.Keys.{matches};
 ghost use Rattle.editor.specs.Wording.Searches.{lowest, match_away, match_left, Reach, likely_at, Telling};
 
 use gap::compare::{run_begins, same_run};
-use gap::{Direction, Search};
+use gap::Direction;
 
 // Two runs, the second behind the first, have the pattern at their front: each has its part of it.
 fn runs_begin(x: &[u8], y: &[u8], pattern: &[u8]) -> bool
@@ -39,13 +39,13 @@ pub fn text_begins(s: &[u8], l: usize, r: usize, at: usize, pattern: &[u8]) -> b
 }
 
 // What a search answers if one move is enough, as for an empty pattern, which matches everywhere: that move, if there is room for it.
-fn first_move(room: usize) -> Search
+fn first_move(room: usize) -> Option<usize>
     ensures { (test : ℕ → Bool) → test 1 ≡ true → result ≡ nearest test room 1 }
 {
     if room < 1 {
-        return Search::Nowhere;
+        return None;
     }
-    Search::Reached(1)
+    Some(1)
 }
 
 // The place of the telling byte: the first that differs from the first of all, or else the last. In a text of one letter neither the
@@ -114,7 +114,7 @@ fn match_away(way: Direction, t: &[u8], d: usize, pattern: &[u8], k: usize) -> b
 }
 
 // The nearest match that begins from `from` on and below `to` bytes away, looked for place by place.
-fn first_match(way: Direction, t: &[u8], from: usize, to: usize, pattern: &[u8], k: usize) -> Search
+fn first_match(way: Direction, t: &[u8], from: usize, to: usize, pattern: &[u8], k: usize) -> Option<usize>
     requires reach { Reach way pattern.now t.now from to }
     requires k_in_bounds { k < length pattern.now }
     ensures { result ≡ nearest (match_away way pattern.now t.now) (to - from) from }
@@ -122,28 +122,28 @@ fn first_match(way: Direction, t: &[u8], from: usize, to: usize, pattern: &[u8],
     let mut d = from;
     while d < to {
         if match_away(way, t, d, pattern, k) {
-            return Search::Reached(d);
+            return Some(d);
         }
         d += 1;
     }
-    Search::Nowhere
+    None
 }
 
 // The nearest match of those that begin d to d + 31 bytes away: most blocks can have none.
-fn block_match(way: Direction, t: &[u8], d: usize, pattern: &[u8], k: usize) -> Search
+fn block_match(way: Direction, t: &[u8], d: usize, pattern: &[u8], k: usize) -> Option<usize>
     requires reach { Reach way pattern.now t.now d (d + 32) }
     requires k_in_bounds { k < length pattern.now }
     ensures { result ≡ nearest (match_away way pattern.now t.now) 32 d }
 {
     let at = lowest_place(way, t.len(), d, d + 31);
     if none_likely(t, at, pattern, k) {
-        return Search::Nowhere;
+        return None;
     }
     first_match(way, t, d, d + 32, pattern, k)
 }
 
 // The nearest match that begins from `from` on and below `to` bytes away, looked for block by block.
-fn nearest_match(way: Direction, t: &[u8], from: usize, to: usize, pattern: &[u8]) -> Search
+fn nearest_match(way: Direction, t: &[u8], from: usize, to: usize, pattern: &[u8]) -> Option<usize>
     requires reach { Reach way pattern.now t.now from to }
     requires in_bounds { 1 ≤ length pattern.now }
     ensures { result ≡ nearest (match_away way pattern.now t.now) (to - from) from }
@@ -152,7 +152,7 @@ fn nearest_match(way: Direction, t: &[u8], from: usize, to: usize, pattern: &[u8
     let mut d = from;
     while 32 <= to - d {
         let found = block_match(way, t, d, pattern, k);
-        let Search::Nowhere = found else {
+        let None = found else {
             return found;
         };
         d += 32;
@@ -161,7 +161,7 @@ fn nearest_match(way: Direction, t: &[u8], from: usize, to: usize, pattern: &[u8
 }
 
 // The distance to the nearest match on the right: the text behind the cursor is one run. Near its end there is no room for one.
-fn find_right(t: &[u8], pattern: &[u8]) -> Search
+fn find_right(t: &[u8], pattern: &[u8]) -> Option<usize>
     ensures { (l : List ℕ) → result ≡ distance Right (matches pattern.now) (record { l = l; r = t.now }) }
 {
     let n = t.len();
@@ -170,28 +170,28 @@ fn find_right(t: &[u8], pattern: &[u8]) -> Search
         return first_move(n);
     }
     if n < m {
-        return Search::Nowhere;
+        return None;
     }
     nearest_match(Direction::Right, t, 1, n - m + 1, pattern)
 }
 
 // The nearest match that begins at most n bytes left of the cursor. It may reach across, so that each place is tested by itself.
-fn match_across(s: &[u8], l: usize, r: usize, n: usize, pattern: &[u8]) -> Search
+fn match_across(s: &[u8], l: usize, r: usize, n: usize, pattern: &[u8]) -> Option<usize>
     requires { (l + r ≤ length s.now) × (n ≤ l) }
     ensures { result ≡ nearest (match_left pattern.now l (content (ungap l r s.now))) n 1 }
 {
     let mut d = 1;
     while d <= n {
         if text_begins(s, l, r, l - d, pattern) {
-            return Search::Reached(d);
+            return Some(d);
         }
         d += 1;
     }
-    Search::Nowhere
+    None
 }
 
 // The distance to the nearest match on the left. Those that begin at least as far away as the pattern is long lie left of the cursor.
-fn find_left(s: &[u8], l: usize, r: usize, pattern: &[u8]) -> Search
+fn find_left(s: &[u8], l: usize, r: usize, pattern: &[u8]) -> Option<usize>
     requires { l + r ≤ length s.now }
     ensures { result ≡ distance Left (matches pattern.now) (ungap l r s.now) }
 {
@@ -203,14 +203,14 @@ fn find_left(s: &[u8], l: usize, r: usize, pattern: &[u8]) -> Search
         return match_across(s, l, r, l, pattern);
     }
     let found = match_across(s, l, r, m - 1, pattern);
-    let Search::Nowhere = found else {
+    let None = found else {
         return found;
     };
     nearest_match(Direction::Left, &s[..l], m, l + 1, pattern)
 }
 
 // The distance to the nearest match in a direction.
-pub fn match_distance(way: Direction, s: &[u8], l: usize, r: usize, pattern: &[u8]) -> Search
+pub fn match_distance(way: Direction, s: &[u8], l: usize, r: usize, pattern: &[u8]) -> Option<usize>
     requires { l + r ≤ length s.now }
     ensures { result ≡ distance way (matches pattern.now) (ungap l r s.now) }
 {

@@ -14,7 +14,7 @@ use crate::{Action, Edit, EditorReply, Key, LONGEST_LINE, Lengths, Mode, Place};
 use gap::runs::{copy_at, copy_front, hold, vacate};
 use gap::sound::is_allowed;
 use gap::texts::{drop_right, hand_over, place_pair};
-use gap::{Direction, Search};
+use gap::Direction;
 
 // ---- Which keys are sound
 

@@ -44,18 +44,11 @@ pub enum Neighbour {
     Other,
 }
 
-// What a search for a place answers: how many moves away it is and how many newlines these pass, or that there is none.
+// What a move to a place passes: how many single moves it is, and how many newlines they cross.
 #[derive(Clone, Copy)]
-pub enum Passage {
-    Reached(usize, usize),
-    Nowhere,
-}
-
-// The mark: none, or one at a position between bytes of the document, counted from its beginning.
-#[derive(Clone, Copy)]
-pub enum Marking {
-    Unmarked,
-    At(usize),
+pub struct Passage {
+    pub steps: usize,
+    pub lines: usize,
 }
 
 // Which text the keys act on: the document or the quotation.
@@ -107,7 +100,8 @@ pub struct Sizes {
 }
 
 // The record without the window's part: the document's side and the quotation's, both halves of the replacement (xl, xr),
-// the pattern's length, the mode, both halves of the held text (hl, hr) and the mark.
+// the pattern's length, the mode, both halves of the held text (hl, hr) and the mark: where there is one, a position between bytes of the
+// document, counted from its beginning.
 #[derive(Clone, Copy)]
 pub struct Lengths {
     pub main: Sizes,
@@ -118,7 +112,7 @@ pub struct Lengths {
     pub mode: Mode,
     pub hl: usize,
     pub hr: usize,
-    pub mark: Marking,
+    pub mark: Option<usize>,
 }
 
 // What a key reports: its steps, the newlines that these pass, and its bell.

@@ -10,7 +10,7 @@ ghost use Rattle.editor.specs.Wording.Marks.{in_document, coming, going, exchang
 
 use crate::records::{QUIET, RANG, edited, holding_sizes, lifted_held, marked_at};
 use crate::sides::{delete_side, recall_side};
-use crate::{Action, EditorReply, Exchange, Key, LONGEST_LINE, Lengths, Marking, Mode, Report};
+use crate::{Action, EditorReply, Exchange, Key, LONGEST_LINE, Lengths, Mode, Report};
 use gap::Direction;
 
 // ---- The three keys
@@ -20,7 +20,7 @@ pub fn mark_key(n: Lengths) -> EditorReply
     ensures { EditsAny result n (λ T p. bounded T quarter (marked_here p)) }
 {
     let main = n.main;
-    edited(QUIET, marked_at(n, Marking::At(main.l)))
+    edited(QUIET, marked_at(n, Some(main.l)))
 }
 
 // CUT: a deletion of the bytes between cursor and mark, with the held text's store lent for the recall text's.
@@ -30,7 +30,7 @@ pub fn cut_key(n: Lengths, text: &mut [u8], held: &mut [u8]) -> EditorReply
     ensures { EditsHeld result n (λ T p. bounded T quarter (cut p)) text.old held.old text.new held.new }
 {
     let mark = n.mark;
-    let Marking::At(m) = mark else {
+    let Some(m) = mark else {
         return edited(RANG, n);
     };
     let sizes = holding_sizes(n);
@@ -38,13 +38,13 @@ pub fn cut_key(n: Lengths, text: &mut [u8], held: &mut [u8]) -> EditorReply
     if m <= l {
         return lifted_held(
             n,
-            Marking::Unmarked,
+            None,
             delete_side(LONGEST_LINE, Direction::Left, l - m, 0, sizes, text, held),
         );
     }
     lifted_held(
         n,
-        Marking::Unmarked,
+        None,
         delete_side(LONGEST_LINE, Direction::Right, m - l, 0, sizes, text, held),
     )
 }
@@ -149,25 +149,25 @@ fn exchange_of(k: Key, n: Lengths, report: Report, m: Lengths) -> Exchange
 }
 
 // The mark through a change at a cursor with l bytes before it.
-fn mark_through(e: Exchange, l: usize, mark: Marking) -> Marking
+fn mark_through(e: Exchange, l: usize, mark: Option<usize>) -> Option<usize>
     requires { Moderate e l mark }
     ensures { result ≡ mark_exchanged e l mark }
 {
-    let Marking::At(m) = mark else {
-        return Marking::Unmarked;
+    let Some(m) = mark else {
+        return None;
     };
     let from = l - e.before;
     let gone = e.before + e.behind;
     if m <= from {
-        return Marking::At(m);
+        return Some(m);
     }
     if m < from + gone {
-        return Marking::Unmarked;
+        return None;
     }
     if m == from + gone {
-        return Marking::At(from);
+        return Some(from);
     }
-    Marking::At(m - gone + e.come)
+    Some(m - gone + e.come)
 }
 
 // A key that is done, with the mark where its change leaves it.

@@ -12,7 +12,7 @@ use crate::finds::match_distance;
 use crate::places::place_distance;
 use crate::{Passage, Place};
 use gap::lines::count_newlines;
-use gap::{Direction, Search};
+use gap::Direction;
 
 // The newlines among the d bytes that a move would cross.
 fn lines_passed(way: Direction, d: usize, s: &[u8], l: usize, r: usize) -> usize
@@ -34,12 +34,12 @@ fn lines_passed(way: Direction, d: usize, s: &[u8], l: usize, r: usize) -> usize
 }
 
 // A distance with the newlines on the way.
-fn with_lines(found: Search, way: Direction, s: &[u8], l: usize, r: usize) -> Passage
+fn with_lines(found: Option<usize>, way: Direction, s: &[u8], l: usize, r: usize) -> Passage
     requires r_in_bounds { l + r ≤ length s.now }
     requires in_room { InRoom found way l r }
     ensures { result ≡ with_lines way (ungap l r s.now) found }
 {
-    let Search::Reached(d) = found else {
+    let Some(d) = found else {
         return Passage::Nowhere;
     };
     Passage::Reached(d, lines_passed(way, d, s, l, r))

@@ -8,7 +8,7 @@ ghost use Rattle.editor.specs.Wording.Searches.{facing};
 
 use crate::finds::lowest_place;
 use crate::{Neighbour, Place};
-use gap::{Direction, Search};
+use gap::Direction;
 
 // Place p of a text is a line beginning.
 pub fn line_beginning_at(t: &[u8], p: usize) -> bool
@@ -119,7 +119,7 @@ pub fn stands(place: Place, way: Direction, t: &[u8], p: usize) -> bool
 }
 
 // The distance over the text that lies in the direction, byte by byte as far as the place.
-fn scan(place: Place, way: Direction, t: &[u8]) -> Search
+fn scan(place: Place, way: Direction, t: &[u8]) -> Option<usize>
     ensures { (other : List ℕ) → result ≡ distance way (is_at place way) (facing way t.now other) }
 {
     let n = t.len();
@@ -127,15 +127,15 @@ fn scan(place: Place, way: Direction, t: &[u8]) -> Search
     while d <= n {
         let p = lowest_place(way, n, d, d);
         if stands(place, way, t, p) {
-            return Search::Reached(d);
+            return Some(d);
         }
         d += 1;
     }
-    Search::Nowhere
+    None
 }
 
 // The same; to the end of the text there is nothing to look for.
-fn text_distance(place: Place, way: Direction, t: &[u8]) -> Search
+fn text_distance(place: Place, way: Direction, t: &[u8]) -> Option<usize>
     ensures { (other : List ℕ) → result ≡ distance way (is_at place way) (facing way t.now other) }
 {
     match place {
@@ -145,18 +145,18 @@ fn text_distance(place: Place, way: Direction, t: &[u8]) -> Search
 }
 
 // The distance over all of a text.
-fn whole(t: &[u8]) -> Search
+fn whole(t: &[u8]) -> Option<usize>
     ensures { result ≡ whole_of (length t.now) }
 {
     let n = t.len();
     if n < 1 {
-        return Search::Nowhere;
+        return None;
     }
-    Search::Reached(n)
+    Some(n)
 }
 
 // The distance in a direction, in a gap store.
-pub fn place_distance(place: Place, way: Direction, s: &[u8], l: usize, r: usize) -> Search
+pub fn place_distance(place: Place, way: Direction, s: &[u8], l: usize, r: usize) -> Option<usize>
     requires { l + r ≤ length s.now }
     ensures { result ≡ distance way (is_at place way) (ungap l r s.now) }
 {

@@ -6,7 +6,7 @@ ghost use Rattle.editor.specs.Wording.Promise.{room_of, moved_by, refused_reply,
 ghost use Rattle.editor.specs.Wording.Promise.{pattern_taken, replacement_taken};
 ghost use Rattle.editor.specs.Wording.Marks.{marked_at, held_in, held_reply};
 
-use crate::{EditorReply, Lengths, Marking, Mode, Report, SideReply, Sizes};
+use crate::{EditorReply, Lengths, Mode, Report, SideReply, Sizes};
 use gap::Direction;
 
 // ---- Reports
@@ -161,7 +161,7 @@ pub fn opening_lengths(n: usize) -> Lengths
         mode: Mode::Main,
         hl: 0,
         hr: 0,
-        mark: Marking::Unmarked,
+        mark: None,
     }
 }
 
@@ -221,7 +221,7 @@ pub fn replacement_taken(n: Lengths) -> Lengths
 // ---- The mark and the held text
 
 // The lengths with another mark.
-pub fn marked_at(n: Lengths, mark: Marking) -> Lengths
+pub fn marked_at(n: Lengths, mark: Option<usize>) -> Lengths
     ensures { result ≡ marked_at mark n }
 {
     let main = n.main;
@@ -265,7 +265,7 @@ fn held_in(n: Lengths, sizes: Sizes) -> Lengths
 }
 
 // A key on the document with the held pair in the place of its recall text, as a reply of the whole layer: refused, or done with this mark.
-pub fn lifted_held(n: Lengths, mark: Marking, t: SideReply) -> EditorReply
+pub fn lifted_held(n: Lengths, mark: Option<usize>, t: SideReply) -> EditorReply
     ensures { result ≡ held_reply n mark t }
 {
     let code = t.code;

@@ -6,7 +6,7 @@ ghost use Rattle.editor.specs.Rules.Bytes.{quarter, sized, one_half, unquoted, e
 ghost use Rattle.editor.specs.Wording.Promise.{stores, Opens};
 
 use crate::records::{holding_sizes, opening_lengths};
-use crate::{LONGEST_LINE, Lengths, Marking, Mode, Sizes};
+use crate::{LONGEST_LINE, Lengths, Mode, Sizes};
 use gap::line_limits::sound_document;
 use gap::runs::clear;
 use gap::sound::{sound_gap, sound_pair};
@@ -39,10 +39,10 @@ fn no_quotation(mode: Mode, n: Sizes) -> bool
 }
 
 // The mark lies within a document of l and r bytes. Their sum is not taken: in a damaged record it could wrap.
-fn mark_within(l: usize, r: usize, mark: Marking) -> bool
+fn mark_within(l: usize, r: usize, mark: Option<usize>) -> bool
     ensures { result ≡ mark_within (l + r) mark }
 {
-    let Marking::At(m) = mark else {
+    let Some(m) = mark else {
         return true;
     };
     if m <= l {

@@ -4,8 +4,6 @@ ghost use Rattle.gap.specs.Rules.Sequence.{every};
 ghost use Rattle.gap.specs.Rules.Decimal.{digit, value, word_digits, is_number, number_of, decimal};
 ghost use Rattle.gap.specs.Wording.Written.{Wrote};
 
-use crate::Number;
-
 // Every byte is a digit.
 fn all_digits(s: &[u8]) -> bool
     ensures { result ≡ every digit s.now }
@@ -49,14 +47,14 @@ fn value_of(s: &[u8]) -> usize
 }
 
 // The number that these bytes write, all of them, in at most so many digits.
-pub fn number_of(most: usize, s: &[u8]) -> Number
+pub fn number_of(most: usize, s: &[u8]) -> Option<usize>
     requires { most ≤ word_digits }
     ensures { result ≡ number_of most s.now }
 {
     if is_number(most, s) {
-        return Number::Read(value_of(s));
+        return Some(value_of(s));
     }
-    Number::Unreadable
+    None
 }
 
 // One digit goes to place `at` of the store.

@@ -4,7 +4,6 @@ ghost use Rattle.gap.specs.Rules.Decimal.{word_digits};
 ghost use Rattle.gap.specs.Rules.Fields.{next_at, line_number, field_of, header_at, entry};
 ghost use Rattle.gap.specs.Wording.Written.{Wrote};
 
-use crate::Number;
 use crate::compare::begins_with;
 use crate::decimals::{number_of, put_decimal};
 use crate::lines::{count_newlines, end_at};
@@ -31,26 +30,26 @@ pub fn line_number(s: &[u8], at: usize) -> usize
 }
 
 // The number behind a word, on a line that has nothing else.
-pub fn field_of(word: &[u8], most: usize, line: &[u8]) -> Number
+pub fn field_of(word: &[u8], most: usize, line: &[u8]) -> Option<usize>
     requires { most ≤ word_digits }
     ensures { result ≡ field_of word.now most line.now }
 {
     if !begins_with(word, line) {
-        return Number::Unreadable;
+        return None;
     }
     let n = word.len();
     number_of(most, &line[n..])
 }
 
 // The number of a line that must end in a newline.
-pub fn header_at(word: &[u8], most: usize, s: &[u8], at: usize) -> Number
+pub fn header_at(word: &[u8], most: usize, s: &[u8], at: usize) -> Option<usize>
     requires at_in_bounds { at ≤ length s.now }
     requires most_le_word_digits { most ≤ word_digits }
     ensures { result ≡ header_at word.now most s.now at }
 {
     let end = end_at(s, at);
     if s.len() <= end {
-        return Number::Unreadable;
+        return None;
     }
     field_of(word, most, &s[at..end])
 }

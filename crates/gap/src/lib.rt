@@ -19,17 +19,3 @@ pub enum Direction {
     Left,
     Right,
 }
-
-// What a search answers: the distance to the nearest place, or that there is none.
-#[derive(Clone, Copy)]
-pub enum Search {
-    Reached(usize),
-    Nowhere,
-}
-
-// What reading a decimal number gives.
-#[derive(Clone, Copy)]
-pub enum Number {
-    Read(usize),
-    Unreadable,
-}

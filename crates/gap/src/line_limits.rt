@@ -6,7 +6,6 @@ ghost use Rattle.gap.specs.Rules.Fields.{line_of};
 ghost use Rattle.gap.specs.Rules.LineLimits.{lines_fit, long_line};
 ghost use Rattle.gap.specs.Wording.LinesAfter.{lines_fit_after};
 
-use crate::Search;
 use crate::lines::{end_at, since_newline};
 use crate::sound::sound_gap;
 
@@ -79,22 +78,22 @@ pub fn sound_document(limit: usize, s: &[u8], l: usize, r: usize) -> bool
 }
 
 // Where the first longer line begins. Line by line only where there is one.
-pub fn long_line(limit: usize, s: &[u8]) -> Search
+pub fn long_line(limit: usize, s: &[u8]) -> Option<usize>
     ensures { result ≡ long_line limit s.now }
 {
     if lines_fit(limit, 0, s) {
-        return Search::Nowhere;
+        return None;
     }
     let mut i = 0;
     while i < s.len() {
         let end = end_at(s, i);
         if limit < end - i {
-            return Search::Reached(i);
+            return Some(i);
         }
         if s.len() <= end {
-            return Search::Nowhere;
+            return None;
         }
         i = end + 1;
     }
-    Search::Nowhere
+    None
 }

@@ -4,8 +4,6 @@ ghost use Rattle.gap.specs.Rules.Sequence.{every, part};
 ghost use Rattle.gap.specs.Rules.Nearest.{nearest};
 ghost use Rattle.gap.specs.Rules.Layout.{printable, allowed, free, sound_gap, sound_pair};
 
-use crate::Search;
-
 // A byte that is printed.
 fn is_printable(b: u8) -> bool
     ensures { result ≡ printable b }
@@ -47,20 +45,20 @@ pub fn all_free(s: &[u8]) -> bool
 }
 
 // The first byte that is not allowed. Byte by byte only where there is one.
-pub fn bad_byte(s: &[u8]) -> Search
+pub fn bad_byte(s: &[u8]) -> Option<usize>
     ensures { result ≡ nearest (λ i. not (allowed (get_or s.now i 0))) (length s.now) 0 }
 {
     if all_allowed(s) {
-        return Search::Nowhere;
+        return None;
     }
     let mut i = 0;
     while i < s.len() {
         if !is_allowed(s[i]) {
-            return Search::Reached(i);
+            return Some(i);
         }
         i += 1;
     }
-    Search::Nowhere
+    None
 }
 
 // Every byte is one that is printed.
@@ -77,20 +75,20 @@ fn all_printable(s: &[u8]) -> bool
 }
 
 // The first byte that is not printed. Byte by byte only where there is one.
-pub fn bad_cell(s: &[u8]) -> Search
+pub fn bad_cell(s: &[u8]) -> Option<usize>
     ensures { result ≡ nearest (λ i. not (printable (get_or s.now i 0))) (length s.now) 0 }
 {
     if all_printable(s) {
-        return Search::Nowhere;
+        return None;
     }
     let mut i = 0;
     while i < s.len() {
         if !is_printable(s[i]) {
-            return Search::Reached(i);
+            return Some(i);
         }
         i += 1;
     }
-    Search::Nowhere
+    None
 }
 
 // Texts of l and r bytes fit into n. No sum is formed, so that none can wrap.

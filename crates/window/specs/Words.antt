@@ -1,14 +1,10 @@
 -- The types and cases that the definitions of this layer speak with, passed on in one place.
 pub use Rattle.gap.specs.declared.Direction.{Direction}
 pub use Rattle.gap.specs.declared.Direction.TheVariants.{Left, Right}
-pub use Rattle.gap.specs.declared.Search.{Search}
-pub use Rattle.gap.specs.declared.Search.TheVariants.{Reached, Nowhere}
 pub use Rattle.editor.specs.declared.Action.{Action}
 pub use Rattle.editor.specs.declared.Action.TheVariants.{Move, Delete}
 pub use Rattle.editor.specs.declared.Place.{Place}
 pub use Rattle.editor.specs.declared.Place.TheVariants.{Character, Word, LineBeginning, LineEnding, Document}
-pub use Rattle.editor.specs.declared.Marking.{Marking}
-pub use Rattle.editor.specs.declared.Marking.TheVariants.{Unmarked, At}
 pub use Rattle.editor.specs.declared.Mode.{Mode}
 pub use Rattle.editor.specs.declared.Mode.TheVariants.{Main, Quoted}
 pub use Rattle.editor.specs.declared.Key.{Key}

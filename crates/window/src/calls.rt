@@ -8,13 +8,12 @@ ghost use Rattle.window.specs.Wording.Calls.{newlines_left, session_test, Texts,
 
 use crate::cursor::{cursor, follow, is_visible, newlines_left, newlines_now};
 use crate::painter::refresh;
-use crate::{Answer, Frame, Reply, Session, SessionTest};
+use crate::{Answer, Frame, Reply, Session};
 use editor::keys::press_session;
 use editor::records::{QUIET, opening_lengths};
 use editor::refusals::{LINE, LONG, SESSION, SIZE, TEXT};
 use editor::stores::{editor_ok, open_stores, sized_stores};
 use editor::{EditorReply, Key, LONGEST_LINE, QUARTER};
-use gap::Search;
 use gap::line_limits::long_line;
 use gap::sound::bad_byte;
 
@@ -53,20 +52,20 @@ pub fn session_test(
     recall: &[u8],
     held: &[u8],
     side: &[u8],
-) -> SessionTest
+) -> Option<usize>
     requires { (q ≤ quarter) × (sized q (stores text.now recall.now held.now side.now) ≡ true) }
     ensures { result ≡ session_test q s (stores text.now recall.now held.now side.now) }
 {
     let lengths = s.lengths;
     let frame = s.frame;
     if !editor_ok(q, lengths, text, recall, held, side) {
-        return SessionTest::Failed;
+        return None;
     }
     let above = newlines_left(lengths, text);
     if !is_visible(frame, cursor(above, lengths, text, side)) {
-        return SessionTest::Failed;
+        return None;
     }
-    SessionTest::Passed(above)
+    Some(above)
 }
 
 // ---- Answers
@@ -178,10 +177,10 @@ pub fn open(
         return unopened(LONG, 0);
     }
     match bad_byte(&text[..n]) {
-        Search::Reached(i) => unopened(TEXT, i),
-        Search::Nowhere => match long_line(LONGEST_LINE, &text[..n]) {
-            Search::Reached(i) => unopened(LINE, i),
-            Search::Nowhere => open_sound(n, h, w, text, recall, held, side, screen),
+        Some(i) => unopened(TEXT, i),
+        None => match long_line(LONGEST_LINE, &text[..n]) {
+            Some(i) => unopened(LINE, i),
+            None => open_sound(n, h, w, text, recall, held, side, screen),
         },
     }
 }
@@ -244,7 +243,7 @@ pub fn press(
     if !tabled_stores(h, w, text, recall, held, side, screen) {
         return turned_down(SIZE, s);
     }
-    let SessionTest::Passed(above) = session_test(QUARTER, s, text, recall, held, side) else {
+    let Some(above) = session_test(QUARTER, s, text, recall, held, side) else {
         return turned_down(SESSION, s);
     };
     let done = press_session(lengths, k, text, recall, held, side);

@@ -5,7 +5,7 @@ ghost use Rattle.window.specs.Rules.Conversion.{convertible};
 ghost use Rattle.window.specs.Wording.Conversion.{conversion, answered_reply, ConvertPromise};
 
 use crate::calls::{refusal, rows_and_columns, session_test};
-use crate::{Reply, Session, SessionTest};
+use crate::{Reply, Session};
 use editor::QUARTER;
 use editor::conversion::{OLD_QUARTER, lengthen};
 use editor::refusals::{SESSION, SIZE};
@@ -57,7 +57,7 @@ pub fn convert(
     if !convertible_stores(h, w, text, recall, held, old, side) {
         return answered(SIZE, s);
     }
-    let SessionTest::Passed(_) = session_test(OLD_QUARTER, s, text, recall, held, old) else {
+    let Some(_) = session_test(OLD_QUARTER, s, text, recall, held, old) else {
         return answered(SESSION, s);
     };
     lengthen(quoted.l, quoted.r, old, side);

@@ -13,7 +13,7 @@ use crate::host_keys::key_from;
 use crate::sender::{Update, send};
 use crate::{Frame, Reply, Sending, Session};
 use editor::refusals::{SESSION, SIZE};
-use editor::{Lengths, Marking, Mode, Sizes};
+use editor::{Lengths, Mode, Sizes};
 use gap::numbers::bit_of;
 
 // The session record in document order: lengths of the document left and right of its cursor, of the quotation, of both halves of the
@@ -80,13 +80,13 @@ fn mode_of(m: usize) -> Mode
     Mode::Main
 }
 
-fn mark_from(m: usize) -> Marking
+fn mark_from(m: usize) -> Option<usize>
     ensures { result ≡ mark_from m }
 {
     if m == NO_MARK {
-        return Marking::Unmarked;
+        return None;
     }
-    Marking::At(m)
+    Some(m)
 }
 
 pub fn session_from(n: Record) -> Session
@@ -134,12 +134,12 @@ fn mode_number(mode: Mode) -> usize
     }
 }
 
-fn mark_number(mark: Marking) -> usize
+fn mark_number(mark: Option<usize>) -> usize
     ensures { result ≡ mark_number mark }
 {
     match mark {
-        Marking::Unmarked => NO_MARK,
-        Marking::At(m) => m,
+        None => NO_MARK,
+        Some(m) => m,
     }
 }
 

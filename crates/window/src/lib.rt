@@ -83,10 +83,3 @@ pub struct Sending {
     pub place: usize,
     pub count: usize,
 }
-
-// What the session test finds: the newlines left of the document's cursor, or that record and stores are no session.
-#[derive(Clone, Copy)]
-pub enum SessionTest {
-    Passed(usize),
-    Failed,
-}

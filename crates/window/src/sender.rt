@@ -10,7 +10,6 @@ use crate::calls::rows_and_columns;
 use crate::sequences::{sent_column, sent_size};
 use crate::writer::write_screen;
 use editor::refusals::{ROOM, SIZE, TEXT};
-use gap::Search;
 use gap::sound::bad_cell;
 
 // What a terminal is brought up to date with: the named rows, first and last, and the cursor, as a call answers them.
@@ -84,7 +83,7 @@ pub fn send(h: usize, w: usize, u: Update, screen: &[u8], out: &mut [u8]) -> Sen
     if !is_sendable(h, w, u, screen) {
         return unsent(SIZE, 0);
     }
-    let Search::Reached(i) = bad_cell(screen) else {
+    let Some(i) = bad_cell(screen) else {
         return send_counted(w, u, screen, out);
     };
     unsent(TEXT, i)

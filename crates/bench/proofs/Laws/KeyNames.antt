@@ -1,4 +1,5 @@
 -- Laws of names: what the words name, and a name that was compared with a word or found to begin with `insert-`.
+use Rattle.std.proofs.Common.{Option}
 use mathlib.Core.Path.{◌≡◌, refl, sym, ap, ◌∙◌}
 use mathlib.Core.Bool.{Bool, true}
 use mathlib.Core.List.{List}
@@ -9,7 +10,7 @@ use Rattle.gap.specs.Rules.Strings.{bytes}
 use Rattle.gap.specs.Rules.Decimal.{number_of}
 use Rattle.gap.proofs.Laws.Sequence.{same-equal}
 use Rattle.gap.proofs.Laws.Runs.{tail_of, tail-lent}
-use Rattle.bench.specs.Words.{Left, Right, Recall, Quote, Find, Replace, Mark, Cut, Paste, Newline, Tab, Number, Naming, Named}
+use Rattle.bench.specs.Words.{Left, Right, Recall, Quote, Find, Replace, Mark, Cut, Paste, Newline, Tab, Naming, Named}
 use Rattle.bench.specs.Rules.Names.{most_digits, insert_numbered, indent_named, mark_named, key_named}
 
 pub record Words : Type 0 where
@@ -35,7 +36,7 @@ module _ {yes : Bool} {key : Naming} (name : List ℕ) where
   named-as naming word named compared e = named ∙ ap naming (sym (same-equal name (bytes word) (sym compared ∙ e)))
 
   -- Behind `insert-` stands the number.
-  pub named-insert : {number : Number} → yes ≡ begins (bytes "insert-") name → yes ≡ true
+  pub named-insert : {number : Option ℕ} → yes ≡ begins (bytes "insert-") name → yes ≡ true
       → number ≡ number_of most_digits (tail_of 7 name) → key ≡ insert_numbered number → key ≡ key_named name
   unfolding key_named
   named-insert compared e read made = rw (sym compared ∙ e) (made ∙ ap insert_numbered (read ∙ ap (number_of most_digits) (tail-lent 7 name)))

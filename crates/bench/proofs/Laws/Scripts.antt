@@ -1,4 +1,5 @@
 -- Laws of what the lines of a script say: keys, and the header as a whole.
+use Rattle.std.proofs.Common.{Option, Some, None}
 use mathlib.Core.Path.{◌≡◌, refl, sym, ap, subst, ◌∙◌}
 use mathlib.Core.Bool.{Bool, true, false, ◌&&◌, cond}
 use mathlib.Core.List.{List}
@@ -13,7 +14,7 @@ use Rattle.gap.specs.Rules.Lines.{newline}
 use Rattle.gap.specs.Rules.Fields.{line_at, end_at, next_at, header_at}
 use Rattle.gap.proofs.Laws.Tests.{and_left, cond-true, cond-false}
 use Rattle.gap.proofs.Laws.LinePlaces.{line-lent, next-inside, next-after}
-use Rattle.bench.specs.Words.{Key, Number, Read, Unreadable, Header, Heading, Headed, Broken}
+use Rattle.bench.specs.Words.{Key, Header, Heading, Headed, Broken}
 use Rattle.bench.specs.Words.{Naming, Named, Unnamed, Pressed, Finished, Unknown}
 use Rattle.bench.specs.Rules.Names.{most_digits}
 use Rattle.bench.specs.Rules.Script.{when_read, text_there, heading_of, key_of, read_as, reading_at}
@@ -78,12 +79,12 @@ pub behind-none : (s : List ℕ) → Behind s 1 (bytes "rows=") 0 (after_rows s)
 unfolding heading_of
 behind-none s = record { fits = omega arith; rest = refl }
 
-module _ {s word : List ℕ} {line at : ℕ} {then : ℕ → ℕ → Heading} {number : Number} (so_far : Behind s line word at then)
+module _ {s word : List ℕ} {line at : ℕ} {then : ℕ → ℕ → Heading} {number : Option ℕ} (so_far : Behind s line word at then)
     (known : number ≡ header_at word most_digits s at) where
-  pub behind-broken : number ≡ Unreadable → Broken line ≡ heading_of s
+  pub behind-broken : number ≡ None → Broken line ≡ heading_of s
   behind-broken none = sym (so_far.rest ∙ ap (λ n. when_read line n (then (next_at s at))) (sym known ∙ none))
 
-  module _ {n next : ℕ} (read : number ≡ Read n) (onward : next ≡ next_at s at) where
+  module _ {n next : ℕ} (read : number ≡ Some n) (onward : next ≡ next_at s at) where
     pub behind-read : heading_of s ≡ then next n
     behind-read =
         so_far.rest ∙ ap (λ m. when_read line m (then (next_at s at))) (sym known ∙ read) ∙ ap (λ k. then k n) (sym onward)
@@ -118,9 +119,9 @@ module _ (s : List ℕ) where
   abbrev Inside : Heading → Type 0
   Inside found = (h : Header) → found ≡ Headed h → h.at + h.length < length s
 
-  inside-when : (line : ℕ) (number : Number) (then : ℕ → Heading) → ((n : ℕ) → Inside (then n)) → Inside (when_read line number then)
-  inside-when line (Read n) then all = all n
-  inside-when line Unreadable then all = λ h e. let z : ◌≡◌ {A = ℕ} 0 1 = cc in omega arith
+  inside-when : (line : ℕ) (number : Option ℕ) (then : ℕ → Heading) → ((n : ℕ) → Inside (then n)) → Inside (when_read line number then)
+  inside-when line (Some n) then all = all n
+  inside-when line None then all = λ h e. let z : ◌≡◌ {A = ℕ} 0 1 = cc in omega arith
 
   inside-if : (there : Bool) (x : Header) → (there ≡ true → x.at + x.length < length s) → Inside (cond there (Headed x) (Broken 4))
   inside-if true x fits = λ h e. let same : x ≡ h = cc in subst (λ y. y.at + y.length < length s) same (fits refl)

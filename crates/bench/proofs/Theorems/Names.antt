@@ -1,4 +1,5 @@
 -- Each key has a name, no two keys have the same, and nothing else names a key. (01, the bench program: keys.)
+use Rattle.std.proofs.Common.{Option, Some, None}
 use mathlib.Core.Path.{◌≡◌, refl, sym, ap, ◌∙◌}
 use mathlib.Core.Logic.{⊎_elim}
 use mathlib.Core.Bool.{cond, false≢true}
@@ -16,7 +17,7 @@ use Rattle.gap.proofs.Laws.Sequence.{same-equal, begins-split}
 use Rattle.gap.proofs.Laws.Nearest.{reached-least}
 use Rattle.gap.proofs.Theorems.Decimals.{read-written}
 use Rattle.bench.specs.Words.{Left, Right, Key, Insert, Function, Recall, Quote, Find, Replace, Mark, Cut, Paste, Newline, Tab}
-use Rattle.bench.specs.Words.{Search, Reached, Nowhere, Number, Read, Unreadable, Naming, Named, Unnamed}
+use Rattle.bench.specs.Words.{Naming, Named, Unnamed}
 use Rattle.bench.specs.Rules.Names.{name_of, combinations, combination_at, function_of, at_row, function_named, insert_numbered}
 use Rattle.bench.specs.Rules.Names.{indent_named, mark_named, key_named}
 use Rattle.bench.proofs.Laws.KeyNames.{words}
@@ -81,19 +82,19 @@ module _ (name : List ℕ) (k : Key) where
       (λ differs. otherwise (sym (cond-false _ _ differs) ∙ e))
       (decided (same_bytes name (bytes word)))
 
-  only_row : (found : Search) → nearest (λ i. same_bytes name (name_of (combination_at i))) 20 0 ≡ found → Only name k (at_row found)
-  only_row (Reached i) at e = same-equal name (name_of (combination_at i)) (reached-least _ 20 0 i at).passes ∙ ap key_name (one_key _ e)
-  only_row Nowhere at e = no_key e
+  only_row : (found : Option ℕ) → nearest (λ i. same_bytes name (name_of (combination_at i))) 20 0 ≡ found → Only name k (at_row found)
+  only_row (Some i) at e = same-equal name (name_of (combination_at i)) (reached-least _ 20 0 i at).passes ∙ ap key_name (one_key _ e)
+  only_row None at e = no_key e
 
-  only-number : (number : Number) → number_of 5 (drop 7 name) ≡ number → insert_numbered number ≡ Named k → bytes "insert-" ++ drop 7 name ≡ key_name k
-  only-number (Read n) read e =
+  only-number : (number : Option ℕ) → number_of 5 (drop 7 name) ≡ number → insert_numbered number ≡ Named k → bytes "insert-" ++ drop 7 name ≡ key_name k
+  only-number (Some n) read e =
       ⊎_elim
       (λ small.
       ap (λ digits. bytes "insert-" ++ digits) (sym (read-written 5 (drop 7 name) n read))
       ∙ ap key_name (one_key (Insert n) (sym (cond-true _ _ small) ∙ e)))
       (λ large. no_key (sym (cond-false _ _ large) ∙ e))
       (decided (leb n 255))
-  only-number Unreadable read e = no_key e
+  only-number None read e = no_key e
 
   only-insert : {other : Naming} → Only name k other
       → Only name k (cond (begins (bytes "insert-") name) (insert_numbered (number_of 5 (drop 7 name))) other)

@@ -1,4 +1,5 @@
 -- The definitions give each name, block and limit of document 01's bench program.
+use Rattle.std.proofs.Common.{Option, Some, None}
 use mathlib.Core.Path.{◌≡◌, refl, ap, ◌∙◌}
 use mathlib.Core.List.{List, [], ◌∷◌, ◌++◌, map, append-nil}
 use mathlib.Core.Bool.{true, false}
@@ -18,7 +19,7 @@ use Rattle.gap.proofs.Laws.Tests.{cond-true, cond-false}
 use Rattle.editor.specs.Rules.Bytes.{quarter}
 use Rattle.window.specs.declared.Answer.{Answer}
 use Rattle.window.specs.Rules.Core.{Lent, rows_and_columns}
-use Rattle.bench.specs.Words.{Right, Move, LineEnding, Number, Read, Unreadable, Header, Heading, Headed, Broken}
+use Rattle.bench.specs.Words.{Right, Move, LineEnding, Header, Heading, Headed, Broken}
 use Rattle.bench.specs.Words.{Insert, Named, Unnamed, Entry}
 use Rattle.bench.specs.Rules.Names.{name_of, combinations, function_of, entry_of, function_named, insert_numbered, indent_named, mark_named, key_named}
 use Rattle.bench.specs.Rules.Script.{when_read, text_there, heading_of}
@@ -63,7 +64,7 @@ unfolding zeros bytes combinations
 entry-pinned = (refl, refl, refl)
 
 -- An insert's number is at most 255.
-pub insert-limit : (n : ℕ) → (n ≤ 255 → insert_numbered (Read n) ≡ Named (Insert n)) × (255 < n → insert_numbered (Read n) ≡ Unnamed)
+pub insert-limit : (n : ℕ) → (n ≤ 255 → insert_numbered (Some n) ≡ Named (Insert n)) × (255 < n → insert_numbered (Some n) ≡ Unnamed)
 insert-limit n = (λ small. rw (le-leb n 255 small), λ large. rw (lt-leb n 255 large))
 
 -- 01, the bench program: blocks.
@@ -78,19 +79,19 @@ unfolding block
 block-by-code H W a screen = (λ none. rw (eq-eqb a.code 0 none), λ some. rw (ne_eqb a.code 0 (λ e. omega arith)))
 
 -- 01, the bench program: four header lines with numbers of at most 5 digits, then the text. The first that is not there is named, 4 for the text.
-told : (line : ℕ) (then : ℕ → Heading) {a b : Number} → a ≡ b → when_read line a then ≡ when_read line b then
+told : (line : ℕ) (then : ℕ → Heading) {a b : Option ℕ} → a ≡ b → when_read line a then ≡ when_read line b then
 told line then e = ap (λ number. when_read line number then) e
 
 pub header-lines : (s : List ℕ) (rows columns store n : ℕ)
     → let second = next_at s 0 in let third = next_at s second in let fourth = next_at s third in let at = next_at s fourth in
-    (header_at (bytes "rows=") 5 s 0 ≡ Unreadable → heading_of s ≡ Broken 1)
-    × (header_at (bytes "rows=") 5 s 0 ≡ Read rows
-    → (header_at (bytes "cols=") 5 s second ≡ Unreadable → heading_of s ≡ Broken 2)
-    × (header_at (bytes "cols=") 5 s second ≡ Read columns
-    → (header_at (bytes "store=") 5 s third ≡ Unreadable → heading_of s ≡ Broken 3)
-    × (header_at (bytes "store=") 5 s third ≡ Read store
-    → (header_at (bytes "text=") 5 s fourth ≡ Unreadable → heading_of s ≡ Broken 4)
-    × (header_at (bytes "text=") 5 s fourth ≡ Read n
+    (header_at (bytes "rows=") 5 s 0 ≡ None → heading_of s ≡ Broken 1)
+    × (header_at (bytes "rows=") 5 s 0 ≡ Some rows
+    → (header_at (bytes "cols=") 5 s second ≡ None → heading_of s ≡ Broken 2)
+    × (header_at (bytes "cols=") 5 s second ≡ Some columns
+    → (header_at (bytes "store=") 5 s third ≡ None → heading_of s ≡ Broken 3)
+    × (header_at (bytes "store=") 5 s third ≡ Some store
+    → (header_at (bytes "text=") 5 s fourth ≡ None → heading_of s ≡ Broken 4)
+    × (header_at (bytes "text=") 5 s fourth ≡ Some n
     → (text_there s at n ≡ false → heading_of s ≡ Broken 4)
     × (text_there s at n ≡ true → heading_of s ≡ Headed (record { rows = rows; columns = columns; store = store; length = n; at = at }))))))
 unfolding heading_of

@@ -1,8 +1,7 @@
 -- The names of the keys. (01, the bench program: keys.)
-use Rattle.std.specs.Prelude.{List, [], ◌∷◌, ◌++◌, map, cond, ℕ, ◌-◌, leb, length, drop, get_or}
+use Rattle.std.specs.Prelude.{List, [], ◌∷◌, ◌++◌, map, cond, ℕ, ◌-◌, leb, length, drop, get_or, Option, Some, None}
 use Prim.Native.String.{String}
-use Rattle.bench.specs.Words.{Number, Read, Unreadable}
-use Rattle.bench.specs.Words.{Direction, Left, Right, Search, Reached, Nowhere, Action, Move, Delete}
+use Rattle.bench.specs.Words.{Direction, Left, Right, Action, Move, Delete}
 use Rattle.bench.specs.Words.{Place, Character, Word, LineBeginning, LineEnding, Document, Key, Insert, Function, Recall, Quote}
 use Rattle.bench.specs.Words.{Find, Replace, Mark, Cut, Paste, Newline, Tab, Naming, Named, Unnamed, Entry}
 use Rattle.gap.specs.Rules.Sequence.{same_bytes, begins, zeros}
@@ -71,9 +70,9 @@ entry_of c =
 
 -- ---- Any key
 
-abbrev pub at_row : Search → Naming
-at_row (Reached i) = Named (function_of (combination_at i))
-at_row Nowhere = Unnamed
+abbrev pub at_row : Option ℕ → Naming
+at_row (Some i) = Named (function_of (combination_at i))
+at_row None = Unnamed
 
 unfoldable pub function_named : List ℕ → Naming
 function_named name = at_row (nearest (λ i. same_bytes name (name_of (combination_at i))) 20 0)
@@ -83,9 +82,9 @@ abbrev pub most_digits : ℕ
 most_digits = 5
 
 -- An insert's number is a byte. Whether the byte is allowed is the core's to say. (01, the bench program: at most 255. DECISIONS A9.)
-abbrev pub insert_numbered : Number → Naming
-insert_numbered (Read n) = cond (leb n 255) (Named (Insert n)) Unnamed
-insert_numbered Unreadable = Unnamed
+abbrev pub insert_numbered : Option ℕ → Naming
+insert_numbered (Some n) = cond (leb n 255) (Named (Insert n)) Unnamed
+insert_numbered None = Unnamed
 
 -- The keys that indent. (02, M-105. DECISIONS C6.)
 unfoldable pub indent_named : List ℕ → Naming

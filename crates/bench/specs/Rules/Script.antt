@@ -1,6 +1,6 @@
 -- How a script is read: four header lines, the text, and lines of keys. (01, the bench program.)
-use Rattle.std.specs.Prelude.{List, Bool, ◌&&◌, cond, ℕ, ◌+◌, eqb, ltb, length, drop, get_or}
-use Rattle.bench.specs.Words.{Number, Read, Unreadable, Heading, Headed, Broken, Naming, Named, Unnamed}
+use Rattle.std.specs.Prelude.{List, Bool, ◌&&◌, cond, ℕ, ◌+◌, eqb, ltb, length, drop, get_or, Option, Some, None}
+use Rattle.bench.specs.Words.{Heading, Headed, Broken, Naming, Named, Unnamed}
 use Rattle.bench.specs.Words.{Reading, Pressed, Finished, Unknown}
 use Rattle.gap.specs.Rules.Sequence.{begins}
 use Rattle.gap.specs.Rules.Strings.{bytes}
@@ -10,9 +10,9 @@ use Rattle.bench.specs.Rules.Names.{most_digits, key_named}
 
 -- ---- The header
 
-abbrev pub when_read : ℕ → Number → (ℕ → Heading) → Heading
-when_read line (Read n) then = then n
-when_read line Unreadable then = Broken line
+abbrev pub when_read : ℕ → Option ℕ → (ℕ → Heading) → Heading
+when_read line (Some n) then = then n
+when_read line None then = Broken line
 
 -- The n bytes from a place on are there, and a newline after them. (DECISIONS A5.)
 unfoldable pub text_there : List ℕ → ℕ → ℕ → Bool

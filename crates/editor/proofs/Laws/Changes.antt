@@ -1,5 +1,6 @@
 -- What a key changes of the document: the text behind it is that change of the text before it, and no more is taken away than is there.
 -- (02, M-101.)
+use Rattle.std.proofs.Common.{Option, Some, None}
 use mathlib.Core.Path.{◌≡◌, refl, sym, ap, ◌∙◌}
 use mathlib.Core.Bool.{Bool, true, false, cond, false≢true}
 use mathlib.Core.List.{[], ◌∷◌, append-nil}
@@ -10,14 +11,13 @@ use borrow.Author.Tests.{leb-true, leb-false}
 use lib.Dec.{leb}
 use lib.ListN.{length, drop, length-append, length-drop, take-append-drop}
 use lib.Seq.{take-length, length-take-le}
-use Rattle.gap.specs.declared.Search.TheVariants as search
 use Rattle.gap.specs.Rules.Doc.{Doc, empty, content, room, delete, times, passed, splice, removed}
 use Rattle.gap.specs.Rules.Nearest.{distance}
 use Rattle.gap.proofs.Laws.Doc.{same-texts, deletions-left, deletions-right, insertions, content-moves}
 use Rattle.gap.proofs.Laws.Compared.{begins-fits}
 use Rattle.gap.proofs.Theorems.Distance.{distance_least}
-use Rattle.editor.specs.Words.{Direction, Left, Right, Search, Passage, Reached, Nowhere, Move, Delete, Mode, Main, Quoted}
-use Rattle.editor.specs.Words.{Key, Insert, Function, Recall, Quote, Find, Replace, Mark, Cut, Paste, Newline, Tab, Marking, Unmarked, At}
+use Rattle.editor.specs.Words.{Direction, Left, Right, Passage, Move, Delete, Mode, Main, Quoted}
+use Rattle.editor.specs.Words.{Key, Insert, Function, Recall, Quote, Find, Replace, Mark, Cut, Paste, Newline, Tab}
 use Rattle.editor.specs.Rules.Places.{is_at}
 use Rattle.editor.specs.Rules.Passages.{with_lines, passage_to}
 use Rattle.editor.specs.Rules.Marks.{Change, unchanged, putting, taking, way_to, far_to, mark_within}
@@ -68,18 +68,18 @@ length_removed Left n d near =
 length_removed Right n d near = length-take-le n d.r near
 
 -- A deletion takes the bytes that it reports; with the bell none.
-deleted-text : (way : Direction) (passage : Passage) (s : Side)
+deleted-text : (way : Direction) (passage : Option Passage) (s : Side)
     → let did = carried Delete way passage s in did.state.text ≡ changed (taking way did.report.steps) s.text
 unfolding carried
-deleted-text way (Reached n lines) s = taken-text way n s.text
-deleted-text Left Nowhere s = sym (unchanged-text s.text)
-deleted-text Right Nowhere s = sym (unchanged-text s.text)
+deleted-text way (Some passage) s = taken-text way passage.steps s.text
+deleted-text Left None s = sym (unchanged-text s.text)
+deleted-text Right None s = sym (unchanged-text s.text)
 
 -- A move keeps the content.
-pub moved-content : (way : Direction) (passage : Passage) (s : Side) → content (carried Move way passage s).state.text ≡ content s.text
+pub moved-content : (way : Direction) (passage : Option Passage) (s : Side) → content (carried Move way passage s).state.text ≡ content s.text
 unfolding carried
-moved-content way (Reached n lines) s = content-moves way n s.text
-moved-content way Nowhere s = refl
+moved-content way (Some passage) s = content-moves way passage.steps s.text
+moved-content way None s = refl
 
 -- An edit of the mode's side changes the document in MAIN alone.
 on-side-changed : (change : ℕ → Change) (edit : Side → Did Side) (p : Plain)
@@ -127,11 +127,11 @@ unfolding substituted with_replacement
 replaced-text Main p = exchanged-text p (matches p.pattern p.main.text)
 replaced-text Quoted p = exchanged-text (with_replacement Quoted p) (matches p.pattern p.main.text)
 
-cut-text : (mark : Marking) (p : Plain)
+cut-text : (mark : Option ℕ) (p : Plain)
     → (cut_to mark p).state.main.text ≡ changed (cutting mark (length p.main.text.l)) p.main.text
 unfolding cut_to carried
-cut-text Unmarked p = sym (unchanged-text p.main.text)
-cut-text (At m) p = let l = length p.main.text.l in taken-text (way_to m l) (far_to m l) p.main.text
+cut-text None p = sym (unchanged-text p.main.text)
+cut-text (Some m) p = let l = length p.main.text.l in taken-text (way_to m l) (far_to m l) p.main.text
 
 -- The keys that go somewhere: moves and searches. All others leave the cursor where the change is.
 abbrev pub goes : Key → Bool
@@ -206,10 +206,10 @@ deleted-within : (way : Direction) (place : Doc → Bool) (s : Side)
 unfolding carried with_lines passage_to
 deleted-within way place s = go (distance way place s.text) refl
   where
-    go : (answer : Search) → distance way place s.text ≡ answer
+    go : (answer : Option ℕ) → distance way place s.text ≡ answer
         → Takes (taking way (carried Delete way (with_lines way s.text answer) s).report.steps) s.text
-    go (search.Reached n) e = taking-within way n s.text ((distance_least way place s.text n).0 e).within
-    go search.Nowhere e = taking-within way 0 s.text (omega arith)
+    go (Some n) e = taking-within way n s.text ((distance_least way place s.text n).0 e).within
+    go None e = taking-within way 0 s.text (omega arith)
 
 on-side-within : (change : ℕ → Change) (edit : Side → Did Side) (p : Plain)
     → Takes (change (edit p.main).report.steps) p.main.text
@@ -241,9 +241,9 @@ far_within m d inside = go (leb m (length d.l)) refl
     go true e = omega arith
     go false e = omega (arith, leb-false m (length d.l) e)
 
-cut-within : (mark : Marking) (d : Doc) → mark_within (size d) mark ≡ true → Takes (cutting mark (length d.l)) d
-cut-within Unmarked d inside = putting-within empty d
-cut-within (At m) d inside =
+cut-within : (mark : Option ℕ) (d : Doc) → mark_within (size d) mark ≡ true → Takes (cutting mark (length d.l)) d
+cut-within None d inside = putting-within empty d
+cut-within (Some m) d inside =
     let l = length d.l in taking-within (way_to m l) (far_to m l) d (far_within m d (leb-true m (size d) inside))
 
 -- Every key takes no more than is there, before the cursor and behind it, if the mark is within the document.

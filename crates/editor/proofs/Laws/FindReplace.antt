@@ -1,4 +1,5 @@
 -- The search and the substitution on record and stores: what the code does on the document's side is what the plain editor says.
+use Rattle.std.proofs.Common.{Option}
 use mathlib.Core.Path.{◌≡◌, refl, sym, ap, ◌∙◌}
 use mathlib.Core.Bool.{true, false}
 use mathlib.Core.List.{List, ◌++◌}
@@ -105,7 +106,7 @@ module _ (Q : ℕ) (n : Lengths) (b : Stores) (sound : Sound Q n b) where
 
   -- ---- The search
 
-  module _ (way : Direction) (answer found : Passage)
+  module _ (way : Direction) (answer found : Option Passage)
       (is : answer ≡ passage_to way (matches pattern_lent) (ungap n.main.l n.main.r b.text)) (told : answer ≡ found) where
     -- The passage that the code found, nowhere or so many bytes away, is the definition's.
     found_as : within (λ s. with_side Main s p) (carried Move way found p.main) ≡ searched way p

@@ -1,5 +1,6 @@
 -- The mark on record and stores: a key's change in numbers is its change of the plain state, and the reply with the mark moved is the reply that
 -- the plain editor says.
+use Rattle.std.proofs.Common.{Option, Some, None}
 use mathlib.Core.Path.{◌≡◌, refl, sym, ap, subst, ◌∙◌}
 use mathlib.Core.Logic.{⊎_elim}
 use mathlib.Core.Bool.{Bool, true, false, cond}
@@ -11,7 +12,7 @@ use lib.ListN.{length}
 use borrow.Author.Tests.{leb-true, le-leb}
 use Rattle.gap.proofs.Laws.Tests.{decided, clash, cond-true}
 use Rattle.gap.specs.Rules.Doc.{Doc}
-use Rattle.editor.specs.Words.{Direction, Left, Right, Move, Delete, Mode, Main, Quoted, Marking, Unmarked, At, Lengths, Exchange}
+use Rattle.editor.specs.Words.{Direction, Left, Right, Move, Delete, Mode, Main, Quoted, Lengths, Exchange}
 use Rattle.editor.specs.Words.{Key, Insert, Function, Recall, Quote, Find, Replace, Mark, Cut, Paste, Newline, Tab}
 use Rattle.editor.specs.declared.EditorReply.{EditorReply}
 use Rattle.editor.specs.Rules.Refusals.{FULL, LINE}
@@ -98,7 +99,7 @@ mark-by : (k : Key) (p : Plain) → cuts k ≡ false
 unfolding lengths_of
 mark-by k p other = ap (λ e. mark_exchanged e (length p.main.text.l) (acted k p).state.mark) (exchange-so k p other)
 
-none-through : (from gone come from' gone' come' : ℕ) (mark : Marking) → mark ≡ Unmarked
+none-through : (from gone come from' gone' come' : ℕ) (mark : Option ℕ) → mark ≡ None
     → mark_through from gone come mark ≡ mark_through from' gone' come' mark
 unfolding mark_through
 none-through from gone come from' gone' come' mark none = rw none
@@ -126,11 +127,11 @@ come-within : (T Q : ℕ) (k : Key) (p : Plain) → T ≤ 65536 → mark_within 
     → size (change_of k p (acted k p)).put ≤ 65536
 come-within T Q k p large inside after = omega (arith, large, size-changed k p inside, after.text.fits)
 
-within_more : (n m : ℕ) (mark : Marking) → n ≤ m → mark_within n mark ≡ true → mark_within m mark ≡ true
-within_more n m Unmarked order e = refl
-within_more n m (At i) order e = le-leb i m (omega (arith, order, leb-true i n e))
+within_more : (n m : ℕ) (mark : Option ℕ) → n ≤ m → mark_within n mark ≡ true → mark_within m mark ≡ true
+within_more n m None order e = refl
+within_more n m (Some i) order e = le-leb i m (omega (arith, order, leb-true i n e))
 
-pub position-within : (n m : ℕ) (mark : Marking) → mark ≡ At m → mark_within n mark ≡ true → m ≤ n
+pub position-within : (n m : ℕ) (mark : Option ℕ) → mark ≡ Some m → mark_within n mark ≡ true → m ≤ n
 position-within n m mark at e = leb-true m n (subst (λ mark. mark_within n mark ≡ true) at e)
 
 -- ---- A key's reply, once the mark has gone through its change

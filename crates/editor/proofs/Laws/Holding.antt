@@ -1,4 +1,5 @@
 -- MARK, CUT and PASTE on record and stores: the document with the held text's store in the place of the recall text's, and the mark.
+use Rattle.std.proofs.Common.{Option, Some, None}
 use mathlib.Core.Path.{◌≡◌, sym, ap, ◌∙◌}
 use mathlib.Core.Logic.{⊎_elim}
 use mathlib.Core.Bool.{true, false, and-true}
@@ -13,7 +14,7 @@ use Rattle.gap.specs.Rules.Layout.{gapped, paired}
 use Rattle.gap.proofs.Laws.Tests.{decided, cond-true, cond-false}
 use Rattle.gap.proofs.Laws.Layout.{is-gap, is-pair}
 use Rattle.gap.proofs.Laws.Holdable.{content-fits}
-use Rattle.editor.specs.Words.{Direction, Reached, Delete, Marking, Unmarked, At, Lengths, Report}
+use Rattle.editor.specs.Words.{Direction, Delete, Lengths, Report}
 use Rattle.editor.specs.declared.SideReply.{SideReply}
 use Rattle.editor.specs.declared.EditorReply.{EditorReply}
 use Rattle.editor.specs.Rules.Refusals.{FULL, LINE}
@@ -65,7 +66,7 @@ module _ (Q : ℕ) (n : Lengths) (b : Stores) (sound : Sound Q n b) where
 
   -- ---- Only the mark is another
 
-  marked-done : (mark : Marking) (report : Report)
+  marked-done : (mark : Option ℕ) (report : Report)
       → record { reply = record { code = 0; report = report; lengths = marked_at mark n }; stores = b }
       ≡ edited_to Q n b (bounded T Q (reporting report (with_mark mark p)))
   unfolding lengths_of stores_of
@@ -78,15 +79,15 @@ module _ (Q : ℕ) (n : Lengths) (b : Stores) (sound : Sound Q n b) where
 
   -- MARK.
   pub mark-done : {r : EditorReply} {report : Report} {m : Lengths} → r ≡ record { code = 0; report = report; lengths = m } → report ≡ quiet
-      → m ≡ marked_at (At n.main.l) n → record { reply = r; stores = b } ≡ edited_to Q n b (bounded T Q (marked_here p))
+      → m ≡ marked_at (Some n.main.l) n → record { reply = r; stores = b } ≡ edited_to Q n b (bounded T Q (marked_here p))
   unfolding marked_here
   mark-done replied said lengths =
       (λ i. record { reply = (replied ∙ λ i. record { code = 0; report = said i; lengths = lengths i }) i; stores = b })
-      ∙ (marked-done (At n.main.l) quiet ∙ ap (λ l. edited_to Q n b (bounded T Q (reporting quiet (with_mark (At l) p)))) (sym left-long))
+      ∙ (marked-done (Some n.main.l) quiet ∙ ap (λ l. edited_to Q n b (bounded T Q (reporting quiet (with_mark (Some l) p)))) (sym left-long))
 
   -- CUT without a mark.
   pub cut-rings : {r : EditorReply} {report : Report} → r ≡ record { code = 0; report = report; lengths = n } → report ≡ rang
-      → n.mark ≡ Unmarked → record { reply = r; stores = b } ≡ edited_to Q n b (bounded T Q (cut p))
+      → n.mark ≡ None → record { reply = r; stores = b } ≡ edited_to Q n b (bounded T Q (cut p))
   unfolding cut_to plain_of
   cut-rings replied said none =
       (λ i. record { reply = (replied ∙ λ i. record { code = 0; report = said i; lengths = n }) i; stores = b })
@@ -103,7 +104,7 @@ module _ (Q : ℕ) (n : Lengths) (b : Stores) (sound : Sound Q n b) where
     room-asked = rw (le-leb _ _ (content-fits Q p.quoted.text encoded.sound.texts.quotation), and-true)
 
     -- What a key on that side gives, with any mark if it is done.
-    module _ (mark : Marking) where
+    module _ (mark : Option ℕ) where
       abbrev given : SideEdited
       given = written longest_line (holding_sizes n) b.text b.held did
 
@@ -157,17 +158,17 @@ module _ (Q : ℕ) (n : Lengths) (b : Stores) (sound : Sound Q n b) where
       ∙ holding-bounded (recalled (holding p)) n.mark turns
 
   -- CUT, once the way to the mark and the bytes between are known.
-  pub cut-done : (m : ℕ) (way : Direction) (d : ℕ) → n.mark ≡ At m → way ≡ way_to m n.main.l → d ≡ far_to m n.main.l
-      → {r : EditorReply} {t : SideReply} {text held : List ℕ} → r ≡ held_reply n Unmarked t
-      → EditsSide longest_line t (holding_sizes n) (carried Delete way (Reached d 0)) b.text b.held text held
+  pub cut-done : (m : ℕ) (way : Direction) (d : ℕ) → n.mark ≡ Some m → way ≡ way_to m n.main.l → d ≡ far_to m n.main.l
+      → {r : EditorReply} {t : SideReply} {text held : List ℕ} → r ≡ held_reply n None t
+      → EditsSide longest_line t (holding_sizes n) (carried Delete way (Some d 0)) b.text b.held text held
       → record { reply = r; stores = stores text b.recall held b.side } ≡ edited_to Q n b (bounded T Q (cut p))
   unfolding cut_to plain_of
   cut-done m way d at is far {text = text} {held} replied turns =
       let l = length p.main.text.l in
-      let act : Did Side = carried Delete (way_to m l) (Reached (far_to m l) 0) (holding p) in
+      let act : Did Side = carried Delete (way_to m l) (Some (far_to m l) 0) (holding p) in
       let way-so = is ∙ ap (way_to m) (sym left-long) in
       let far-so = far ∙ ap (far_to m) (sym left-long) in
-      let acted : carried Delete way (Reached d 0) (holding p) ≡ act = λ i. carried Delete (way-so i) (Reached (far-so i) 0) (holding p) in
+      let acted : carried Delete way (Some d 0) (holding p) ≡ act = λ i. carried Delete (way-so i) (Some (far-so i) 0) (holding p) in
       (λ i. record { reply = replied i; stores = stores text b.recall held b.side })
-      ∙ (holding-bounded act Unmarked (turns ∙ ap (written longest_line (holding_sizes n) b.text b.held) acted)
+      ∙ (holding-bounded act None (turns ∙ ap (written longest_line (holding_sizes n) b.text b.held) acted)
       ∙ ap (λ mark. edited_to Q n b (bounded T Q (cut_to mark p))) (sym at))

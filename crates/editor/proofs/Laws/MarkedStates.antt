@@ -1,4 +1,5 @@
 -- Laws of the plain state with its mark and held text: another mark leaves the texts, and CUT and PASTE keep them a session's. (02, M-101.)
+use Rattle.std.proofs.Common.{Option, Some, None}
 use mathlib.Core.Path.{◌≡◌, refl}
 use mathlib.Core.Bool.{Bool, true, false, cond}
 use Prim.Native.Nat.{ℕ}
@@ -7,7 +8,7 @@ use borrow.Author.Tests.{le-leb}
 use Rattle.gap.specs.Rules.Doc.{Doc}
 use Rattle.gap.proofs.Laws.Tests.{and_both}
 use Rattle.gap.proofs.Laws.Holdable.{content-fits}
-use Rattle.editor.specs.Words.{Reached, Delete, Mode, Main, Quoted, Marking, Unmarked, At}
+use Rattle.editor.specs.Words.{Delete, Mode, Main, Quoted}
 use Rattle.editor.specs.Rules.Marks.{way_to, far_to}
 use Rattle.editor.specs.Rules.Plain.{Side, Plain, holding, quiet, rang, Did, reporting, within}
 use Rattle.editor.specs.Rules.LongLines.{longest_line, readable}
@@ -18,7 +19,7 @@ use Rattle.editor.proofs.Laws.Sides.{SoundSide, carried-sound, recalled-sound}
 use Rattle.editor.proofs.Laws.States.{sound-fits, fits-side}
 
 -- Another mark leaves the texts, and their room.
-pub marked-sound : (T Q : ℕ) (mark : Marking) (p : Plain) → SoundTexts T Q p → SoundTexts T Q (with_mark mark p)
+pub marked-sound : (T Q : ℕ) (mark : Option ℕ) (p : Plain) → SoundTexts T Q p → SoundTexts T Q (with_mark mark p)
 marked-sound T Q mark p sound =
     record {
       text = sound.text;
@@ -35,7 +36,7 @@ marked-sound T Q mark p sound =
       lines = sound.lines;
     }
 
-pub fits-marked : (T Q : ℕ) (mark : Marking) (p : Plain) → fits T Q (with_mark mark p) ≡ fits T Q p
+pub fits-marked : (T Q : ℕ) (mark : Option ℕ) (p : Plain) → fits T Q (with_mark mark p) ≡ fits T Q p
 unfolding fits
 fits-marked T Q mark p = refl
 
@@ -61,23 +62,23 @@ with-holding-sound T Q s p sound side lines =
       lines = lines;
     }
 
-pub cut_fits : (T Q : ℕ) (mark : Marking) (p : Plain) → SoundTexts T Q p → fits T Q (cut_to mark p).state ≡ true
+pub cut_fits : (T Q : ℕ) (mark : Option ℕ) (p : Plain) → SoundTexts T Q p → fits T Q (cut_to mark p).state ≡ true
 unfolding cut_to fits
-cut_fits T Q Unmarked p sound = sound-fits T Q p sound
-cut_fits T Q (At m) p sound =
+cut_fits T Q None p sound = sound-fits T Q p sound
+cut_fits T Q (Some m) p sound =
     let l = length p.main.text.l in
-    let side = carried-sound T (holding p) (holding-sound T Q p sound) Delete (way_to m l) (Reached (far_to m l) 0) in
+    let side = carried-sound T (holding p) (holding-sound T Q p sound) Delete (way_to m l) (Some (far_to m l) 0) in
     and_both (le-leb _ _ (content-fits T _ side.text)) (le-leb _ _ (content-fits Q p.quoted.text sound.quotation))
 
-pub cut-sound : (T Q : ℕ) (mark : Marking) (p : Plain) → SoundTexts T Q p → readable longest_line (cut_to mark p).state ≡ true
+pub cut-sound : (T Q : ℕ) (mark : Option ℕ) (p : Plain) → SoundTexts T Q p → readable longest_line (cut_to mark p).state ≡ true
     → SoundTexts T Q (cut_to mark p).state
 unfolding cut_to
-cut-sound T Q Unmarked p sound lines = sound
-cut-sound T Q (At m) p sound lines =
+cut-sound T Q None p sound lines = sound
+cut-sound T Q (Some m) p sound lines =
     let l = length p.main.text.l in
-    marked-sound T Q Unmarked _
+    marked-sound T Q None _
     (with-holding-sound T Q _ p sound
-    (carried-sound T (holding p) (holding-sound T Q p sound) Delete (way_to m l) (Reached (far_to m l) 0)) lines)
+    (carried-sound T (holding p) (holding-sound T Q p sound) Delete (way_to m l) (Some (far_to m l) 0)) lines)
 
 pub pasted-sound : (T Q : ℕ) (p : Plain) → SoundTexts T Q p → fits T Q (pasted p).state ≡ true → readable longest_line (pasted p).state ≡ true
     → SoundTexts T Q (pasted p).state
@@ -87,7 +88,7 @@ pasted-sound T Q p sound room lines =
     (recalled-sound T (holding p) (holding-sound T Q p sound) (fits-side T Q Main (with_holding (recalled (holding p)).state p) room)) lines
 
 -- Another mark leaves both sides.
-pub side-marked : (mode : Mode) (mark : Marking) (p : Plain) → side_of mode (with_mark mark p) ≡ side_of mode p
+pub side-marked : (mode : Mode) (mark : Option ℕ) (p : Plain) → side_of mode (with_mark mark p) ≡ side_of mode p
 side-marked Main mark p = refl
 side-marked Quoted mark p = refl
 
@@ -100,7 +101,7 @@ on-side-mark edit p = go p.mode
     go Main = refl
     go Quoted = refl
 
-pub on-side-marked : (edit : Side → Did Side) (mark : Marking) (p : Plain) → on_side edit (with_mark mark p) ≡ within (with_mark mark) (on_side edit p)
+pub on-side-marked : (edit : Side → Did Side) (mark : Option ℕ) (p : Plain) → on_side edit (with_mark mark p) ≡ within (with_mark mark) (on_side edit p)
 unfolding on_side
 on-side-marked edit mark p = go p.mode
   where

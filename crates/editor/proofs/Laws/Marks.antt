@@ -1,4 +1,5 @@
 -- Laws of the mark: its rule, case by case, and that it stays within the document. (02, M-101.)
+use Rattle.std.proofs.Common.{Option, Some, None}
 use mathlib.Core.Path.{◌≡◌, refl, sym, ap, ◌∙◌}
 use mathlib.Core.Bool.{Bool, true, false, cond, false≢true}
 use Prim.Native.Nat.{ℕ, ◌+◌, ◌-◌, ◌≤◌, ◌<◌}
@@ -7,7 +8,7 @@ use borrow.Author.Tests.{le-leb, leb-true, leb-false, ltb-false, lt-leb, le-ltb,
 use lib.Dec.{eqb, leb, ltb}
 use lib.ListN.{length, length-append}
 use Rattle.gap.proofs.Laws.Holdable.{length-splice}
-use Rattle.editor.specs.Words.{Direction, Mode, Main, Quoted, Marking, Unmarked, At}
+use Rattle.editor.specs.Words.{Direction, Mode, Main, Quoted}
 use Rattle.editor.specs.Words.{Key, Insert, Function, Recall, Quote, Find, Replace, Mark, Cut, Paste, Newline, Tab}
 use Rattle.editor.specs.Rules.Marks.{mark_through, mark_within}
 use Rattle.editor.specs.Rules.Plain.{Plain, quiet, rang, reporting}
@@ -22,48 +23,48 @@ use Rattle.editor.proofs.Laws.Changes.{size, content-changed, change-within}
 -- ---- The rule of the mark, case by case
 
 module _ (from gone come m : ℕ) where
-  pub through-stays : m ≤ from → mark_through from gone come (At m) ≡ At m
+  pub through-stays : m ≤ from → mark_through from gone come (Some m) ≡ Some m
   unfolding mark_through
   through-stays h = rw (le-leb m from h)
 
-  pub through-gone : from < m → m < from + gone → mark_through from gone come (At m) ≡ Unmarked
+  pub through-gone : from < m → m < from + gone → mark_through from gone come (Some m) ≡ None
   unfolding mark_through
   through-gone low high = rw (lt-leb m from low, lt-ltb m (from + gone) high)
 
-  pub through-end : m ≡ from + gone → mark_through from gone come (At m) ≡ At from
+  pub through-end : m ≡ from + gone → mark_through from gone come (Some m) ≡ Some from
   unfolding mark_through
   through-end e =
-      ⊎_elim (λ low. rw low (ap At (omega (arith, leb-true m from low, e))))
+      ⊎_elim (λ low. rw low (ap Some (omega (arith, leb-true m from low, e))))
       (λ high. rw (high, le-ltb m (from + gone) (omega (arith, e)), eq-eqb m (from + gone) e)) (decided (leb m from))
 
-  pub through-behind : from + gone < m → mark_through from gone come (At m) ≡ At (m - gone + come)
+  pub through-behind : from + gone < m → mark_through from gone come (Some m) ≡ Some (m - gone + come)
   unfolding mark_through
   through-behind h =
       let behind : (m ≡ from + gone → ⊥) = λ e. omega (arith, e, h) in
       rw (lt-leb m from (omega (arith, h)), le-ltb m (from + gone) (omega (arith, h)), ne_eqb m (from + gone) behind)
 
 -- Where nothing goes and nothing comes the mark stays.
-pub through-nothing : (from : ℕ) (mark : Marking) → mark_through from 0 0 mark ≡ mark
+pub through-nothing : (from : ℕ) (mark : Option ℕ) → mark_through from 0 0 mark ≡ mark
 unfolding mark_through
-through-nothing from Unmarked = refl
-through-nothing from (At m) =
+through-nothing from None = refl
+through-nothing from (Some m) =
     let same : m - 0 + 0 ≡ m = omega arith in
     ⊎_elim (λ e. through-stays from 0 0 m (leb-true m from e))
-    (λ e. through-behind from 0 0 m (omega (arith, leb-false m from e)) ∙ ap At same)
+    (λ e. through-behind from 0 0 m (omega (arith, leb-false m from e)) ∙ ap Some same)
     (decided (leb m from))
 
 -- ---- The mark stays within the document
 
 -- Through a change a mark within the document stays within it.
-pub through-within : (from gone come n : ℕ) (mark : Marking) → from + gone ≤ n → mark_within n mark ≡ true
+pub through-within : (from gone come n : ℕ) (mark : Option ℕ) → from + gone ≤ n → mark_within n mark ≡ true
     → mark_within (n - gone + come) (mark_through from gone come mark) ≡ true
 unfolding mark_through
-through-within from gone come n Unmarked fits inside = refl
-through-within from gone come n (At m) fits inside =
+through-within from gone come n None fits inside = refl
+through-within from gone come n (Some m) fits inside =
     go (leb m from) (ltb m (from + gone)) (eqb m (from + gone)) refl refl refl
   where
     go : (a b c : Bool) → leb m from ≡ a → ltb m (from + gone) ≡ b → eqb m (from + gone) ≡ c
-        → mark_within (n - gone + come) (cond a (At m) (cond b Unmarked (cond c (At from) (At (m - gone + come))))) ≡ true
+        → mark_within (n - gone + come) (cond a (Some m) (cond b None (cond c (Some from) (Some (m - gone + come))))) ≡ true
     go true b c low high end = le-leb m _ (omega (arith, leb-true m from low))
     go false true c low high end = refl
     go false false true low high end = le-leb from _ (omega arith)
@@ -115,10 +116,10 @@ acted-mark Newline p other = on-side-mark newlined p
 acted-mark Tab p other = on-side-mark tabbed p
 
 -- CUT leaves no mark.
-pub cut-mark : (mark : Marking) (p : Plain) → p.mark ≡ mark → (cut_to mark p).state.mark ≡ Unmarked
+pub cut-mark : (mark : Option ℕ) (p : Plain) → p.mark ≡ mark → (cut_to mark p).state.mark ≡ None
 unfolding cut_to
-cut-mark Unmarked p same = same
-cut-mark (At m) p same = refl
+cut-mark None p same = same
+cut-mark (Some m) p same = refl
 
 as_before : (k : Key) (p : Plain) → marks k ≡ false → mark_within (size p.main.text) p.mark ≡ true
     → mark_within (size p.main.text) (acted k p).state.mark ≡ true

@@ -1,4 +1,5 @@
 -- Laws of searching: the distance to the nearest match is a search through one text, which goes place by place or block by block.
+use Rattle.std.proofs.Common.{Option, None}
 use mathlib.Core.Path.{◌≡◌, sym, ap, ◌∙◌}
 use mathlib.Core.Bool.{Bool, true, false, not}
 use mathlib.Core.List.{List}
@@ -7,8 +8,6 @@ use native.Mathlib.Omega.{arith}
 use lib.ListN.{length, take, drop, length-drop}
 use lib.Seq.{drop-append-le, length-take-le}
 use borrow.Author.Tests.{not-true}
-use Rattle.gap.specs.declared.Search.{Search}
-use Rattle.gap.specs.declared.Search.TheVariants.{Nowhere}
 use Rattle.gap.specs.declared.Direction.{Direction}
 use Rattle.gap.specs.declared.Direction.TheVariants.{Left, Right}
 use Rattle.gap.specs.Rules.Sequence.{every, begins, counted}
@@ -64,7 +63,7 @@ module _ {way : Direction} {pattern text : List ℕ} {d at : ℕ} (reach : Reach
   -- Where no match is likely, the block has none.
   pub block_none : (k : ℕ) → k < length pattern → {none : Bool}
       → none ≡ every (λ place. not (likely_at pattern k text place)) (counted 32 at) → none ≡ true
-      → Nowhere ≡ nearest (match_away way pattern text) 32 d
+      → None ≡ nearest (match_away way pattern text) 32 d
   block_none k inside tested e = sym (none-nowhere (match_away way pattern text) 32 d no-match)
     where
       unmatched : (place : ℕ) → at ≤ place → place < at + 32 → begins pattern (drop place text) ≡ false
@@ -86,7 +85,7 @@ distance-right pattern d = sym (λ i. nearest (λ n. begins pattern (moves-right
 
 -- Where less of the text is left than the pattern is long, there is no match.
 module _ (pattern text : List ℕ) where
-  pub right-rest : (a : ℕ) → a ≤ length text → length text ≤ a + length pattern → {found : Search}
+  pub right-rest : (a : ℕ) → a ≤ length text → length text ≤ a + length pattern → {found : Option ℕ}
       → found ≡ nearest (match_away Right pattern text) a 1 → found ≡ nearest (match_away Right pattern text) (length text) 1
   right-rest a fits short searched =
       let rows : a + (length text - a) ≡ length text = omega arith in
@@ -95,7 +94,7 @@ module _ (pattern text : List ℕ) where
       (λ j low high. sym (begins-short pattern (drop j text) (rw length-drop (omega arith))))
       ∙ ap (λ n. nearest (match_away Right pattern text) n 1) rows
 
-  pub right-short : length text < length pattern → Nowhere ≡ nearest (match_away Right pattern text) (length text) 1
+  pub right-short : length text < length pattern → None ≡ nearest (match_away Right pattern text) (length text) 1
   right-short short = right-rest 0 (omega arith) (omega arith) (scan-none _ 0 1 1 (scan-start _ 0 1) (omega arith))
 
 -- To the left it is one of the whole text, with the cursor at place l.
@@ -123,8 +122,8 @@ module _ (pattern : List ℕ) (l r : ℕ) (s : List ℕ) (fits : l + r ≤ lengt
         let size = length-take-le l s (omega arith) in
         record { order = omega arith; end = omega arith; room = λ d far near. omega arith }
 
-    pub left-beyond : {across found : Search}
-        → across ≡ nearest (match_left pattern l (content (ungap l r s))) (length pattern - 1) 1 → across ≡ Nowhere
+    pub left-beyond : {across found : Option ℕ}
+        → across ≡ nearest (match_left pattern l (content (ungap l r s))) (length pattern - 1) 1 → across ≡ None
         → found ≡ nearest (match_away Left pattern (take l s)) (l + 1 - length pattern) (length pattern)
         → found ≡ nearest (match_left pattern l (content (ungap l r s))) l 1
     left-beyond passed none searched =
@@ -134,7 +133,7 @@ module _ (pattern : List ℕ) (l r : ℕ) (s : List ℕ) (fits : l + r ≤ lengt
         (searched ∙ nearest-same (l + 1 - length pattern) (length pattern) (λ j far near. left_alone j far (omega arith)))
 
 -- A search to the right, in the text behind the cursor as code lends it, is one in the store.
-pub found_right : {way : Direction} {found : Search} (pattern : List ℕ) (l r : ℕ) (s : List ℕ) → way ≡ Right
+pub found_right : {way : Direction} {found : Option ℕ} (pattern : List ℕ) (l r : ℕ) (s : List ℕ) → way ≡ Right
     → ((x : List ℕ) → found ≡ distance Right (matches pattern) (record { l = x; r = tail_of (length s - r) s }))
     → found ≡ distance way (matches pattern) (ungap l r s)
 unfolding ungap

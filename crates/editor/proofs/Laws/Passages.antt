@@ -1,16 +1,16 @@
 -- Laws of the newlines that a search passes: the run of bytes in which the code counts is what the moves cross.
+use Rattle.std.proofs.Common.{Option, Some, None}
 use mathlib.Core.Path.{◌≡◌, sym, ap, ◌∙◌}
 use mathlib.Core.List.{List}
 use Prim.Native.Nat.{ℕ, ◌+◌, ◌-◌, ◌≤◌}
 use native.Mathlib.Omega.{arith}
 use lib.ListN.{length, take, drop}
 use lib.Seq.{length-take-le}
-use Rattle.gap.specs.declared.Search.TheVariants as found
 use Rattle.gap.specs.Rules.Doc.{Doc, passed}
 use Rattle.gap.specs.Rules.Lines.{newlines}
 use Rattle.gap.specs.Rules.Layout.{ungap}
 use Rattle.gap.proofs.Laws.Layout.{drop-taken}
-use Rattle.editor.specs.Words.{Direction, Left, Right, Search, Reached, Nowhere}
+use Rattle.editor.specs.Words.{Direction, Left, Right}
 use Rattle.editor.specs.Rules.Passages.{with_lines}
 
 module _ (d l r : ℕ) (s : List ℕ) (fits : l + r ≤ length s) where
@@ -30,11 +30,11 @@ module _ (d l r : ℕ) (s : List ℕ) (fits : l + r ≤ length s) where
       ap (λ k. take k (drop (length s - r) s)) many
 
 -- A distance with its lines, by what the code has found out of the distance.
-module _ (way : Direction) (doc : Doc) {answer : Search} where
-  pub lines-nowhere : answer ≡ found.Nowhere → Nowhere ≡ with_lines way doc answer
+module _ (way : Direction) (doc : Doc) {answer : Option ℕ} where
+  pub lines-nowhere : answer ≡ None → None ≡ with_lines way doc answer
   unfolding with_lines
   lines-nowhere e = sym (ap (with_lines way doc) e)
 
-  pub lines-reached : {d n : ℕ} → answer ≡ found.Reached d → n ≡ newlines (passed way d doc) → Reached d n ≡ with_lines way doc answer
+  pub lines-reached : {d n : ℕ} → answer ≡ Some d → n ≡ newlines (passed way d doc) → Some d n ≡ with_lines way doc answer
   unfolding with_lines
-  lines-reached {d = d} e counted = ap (Reached d) counted ∙ sym (ap (with_lines way doc) e)
+  lines-reached {d = d} e counted = ap (Some d) counted ∙ sym (ap (with_lines way doc) e)

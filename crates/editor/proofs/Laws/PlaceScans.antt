@@ -1,5 +1,6 @@
 -- Laws of places within one text, by the two bytes beside them, and of the distance to a place as a search through the text that lies
 -- in the direction.
+use Rattle.std.proofs.Common.{Option}
 use mathlib.Core.Path.{◌≡◌, refl, sym, ap, ap₂, ◌∙◌}
 use mathlib.Core.Logic.{⊎_elim}
 use mathlib.Core.Bool.{Bool, true}
@@ -18,7 +19,7 @@ use Rattle.gap.specs.Rules.Layout.{ungap}
 use Rattle.gap.proofs.Laws.Tests.{decided, cond-true, cond-false}
 use Rattle.gap.proofs.Laws.Doc.{back-append, moves-left, moves-right, room-moves}
 use Rattle.gap.proofs.Laws.Nearest.{least-reached, none-nowhere, nearest-same}
-use Rattle.editor.specs.Words.{Direction, Left, Right, Search}
+use Rattle.editor.specs.Words.{Direction, Left, Right}
 use Rattle.editor.specs.Words.{Place, Character, Word, LineBeginning, LineEnding, Document}
 use Rattle.editor.specs.Words.{Neighbour}
 use Rattle.editor.specs.declared.Neighbour.TheVariants.{Nothing, Space, Newline, Other}
@@ -107,7 +108,7 @@ pub test_known : {place kind : Place} {way known : Direction} {ok : Bool} (d : D
     → ok ≡ is_at kind known d → ok ≡ is_at place way d
 test_known d p q e = e ∙ sym (ap₂ (λ place way. is_at place way d) p q)
 
-pub distance-known : {place kind : Place} {way known : Direction} {s : Search} (d : Doc) → place ≡ kind → way ≡ known
+pub distance-known : {place kind : Place} {way known : Direction} {s : Option ℕ} (d : Doc) → place ≡ kind → way ≡ known
     → s ≡ distance known (is_at kind known) d → s ≡ distance way (is_at place way) d
 distance-known d p q e = e ∙ sym (ap₂ (λ place way. distance way (is_at place way) d) p q)
 
@@ -193,7 +194,7 @@ lowest-within Left n d h = omega arith
 lowest-within Right n d h = h
 
 -- In a gap store: the parts that the code lends are the texts.
-module _ (place : Place) {way : Direction} {found : Search} (l r : ℕ) (s : List ℕ) where
+module _ (place : Place) {way : Direction} {found : Option ℕ} (l r : ℕ) (s : List ℕ) where
   pub gap-left : way ≡ Left → ((other : List ℕ) → found ≡ distance way (is_at place way) (facing way (take l s) other))
       → found ≡ distance way (is_at place way) (ungap l r s)
   unfolding ungap

@@ -1,4 +1,5 @@
 -- Laws of keys on one side: how such a key ends, refused as FULL or as LINE or done, and what each edit makes of the sizes that a side has.
+use Rattle.std.proofs.Common.{Option, Some, None}
 use mathlib.Core.Path.{◌≡◌, refl, sym, ap, ◌∙◌}
 use mathlib.Core.Bool.{Bool, true, false}
 use mathlib.Core.List.{List, [], ◌∷◌, append-nil}
@@ -20,8 +21,7 @@ use Rattle.gap.proofs.Laws.Doc.{deletions-left, deletions-right, insertions, con
 use Rattle.gap.proofs.Laws.LineLimits.{fit-left, fit-right, fit-take, fit-drop}
 use Rattle.gap.proofs.Laws.Indents.{length-spaces, spaces-suc}
 use Rattle.gap.proofs.Laws.Layout.{length-left, length-right}
-use Rattle.editor.specs.Words.{Direction, Left, Right, Search, Passage, Reached, Nowhere, Action, Move, Delete, Place, Sizes, Report}
-use Rattle.gap.specs.declared.Search.TheVariants as found
+use Rattle.editor.specs.Words.{Direction, Left, Right, Passage, Action, Move, Delete, Place, Sizes, Report}
 use Rattle.editor.specs.declared.SideReply.{SideReply}
 use Rattle.editor.specs.Rules.Refusals.{FULL, LINE}
 use Rattle.editor.specs.Rules.Plain.{Side, quiet, rang, went, Did, reporting}
@@ -101,19 +101,19 @@ room-held : (way : Direction) (l r : ℕ) (text : List ℕ) → l + r ≤ length
 room-held Left l r text fits = sym (length-left _ _ _ fits)
 room-held Right l r text fits = sym (length-right _ _ _ fits)
 
-pub distance-in-room : (way : Direction) (place : Doc → Bool) (l r : ℕ) (text : List ℕ) → l + r ≤ length text → {answer : Search}
+pub distance-in-room : (way : Direction) (place : Doc → Bool) (l r : ℕ) (text : List ℕ) → l + r ≤ length text → {answer : Option ℕ}
     → answer ≡ distance way place (ungap l r text) → InRoom answer way l r
 unfolding distance
 distance-in-room way place l r text fits e d told =
     omega (arith, room-held way l r text fits, (reached-least _ _ 1 d (sym e ∙ told)).within)
 
-passage-distance : (way : Direction) (doc : Doc) (answer : Search) {d lines : ℕ} → with_lines way doc answer ≡ Reached d lines → answer ≡ found.Reached d
+passage-distance : (way : Direction) (doc : Doc) (answer : Option ℕ) {d lines : ℕ} → with_lines way doc answer ≡ Some (record { steps = d; lines = lines }) → answer ≡ Some d
 unfolding with_lines
-passage-distance way doc (found.Reached n) e = cc
-passage-distance way doc found.Nowhere e = cc
+passage-distance way doc (Some n) e = cc
+passage-distance way doc None e = cc
 
-pub within-room : (n : Sizes) {text : List ℕ} → IsGap n.l n.r text → (way : Direction) (place : Doc → Bool) {answer : Passage} {d lines : ℕ}
-    → answer ≡ passage_to way place (ungap n.l n.r text) → answer ≡ Reached d lines → d ≤ room_of way n
+pub within-room : (n : Sizes) {text : List ℕ} → IsGap n.l n.r text → (way : Direction) (place : Doc → Bool) {answer : Option Passage} {d lines : ℕ}
+    → answer ≡ passage_to way place (ungap n.l n.r text) → answer ≡ Some (record { steps = d; lines = lines }) → d ≤ room_of way n
 unfolding passage_to
 within-room n gap way place {d = d} e told =
     let near = passage-distance way _ (distance way place (ungap n.l n.r _)) (sym e ∙ told) in
@@ -256,7 +256,7 @@ module _ {limit : ℕ} {n : Sizes} {text recall : List ℕ} (on : OnSide limit n
 
   pub moved : (way : Direction) {d lines : ℕ} {t : SideReply} {report : Report} {m : Sizes} {text_then : List ℕ} → t ≡ done_reply report m
       → report ≡ went d lines → d ≤ room_of way n → m ≡ moved_by way d n → text_then ≡ gapped (length text) (times (move way) d doc)
-      → EditsSide limit t n (carried Move way (Reached d lines)) text recall text_then recall
+      → EditsSide limit t n (carried Move way (Some (record { steps = d; lines = lines }))) text recall text_then recall
   unfolding carried
   moved way {d} reply said h sizes store =
       landed limit n text recall _ reply said (rw length-moves held_fits) (rw content-moves on.lines) (sizes ∙ moved-sizes way d h) store
@@ -313,14 +313,14 @@ module _ {limit : ℕ} {n : Sizes} {text recall : List ℕ} (on : OnSide limit n
   pub deleted : (way : Direction) {d lines : ℕ} {t : SideReply} {report : Report} {m : Sizes} {text_then recall_then : List ℕ}
       → t ≡ done_reply report m → report ≡ went d lines → d ≤ room_of way n → lines_fit limit (content (kept_by way d n text)) ≡ true → m ≡ deleted_by way d n
       → text_then ≡ gapped (length text) (times (delete way) d doc) → recall_then ≡ paired (length recall) (removed way d doc)
-      → EditsSide limit t n (carried Delete way (Reached d lines)) text recall text_then recall_then
+      → EditsSide limit t n (carried Delete way (Some (record { steps = d; lines = lines }))) text recall text_then recall_then
   unfolding carried
   deleted way {d} reply said h fit sizes store taken =
       landed limit n text recall _ reply said (deleted-fits way d h) (ap (λ e. lines_fit limit (content e)) (kept-is way d h) ∙ fit)
       (sizes ∙ deleted-sizes way d h) store taken
 
   pub deleted-long : (way : Direction) (d lines : ℕ) {t : SideReply} → t ≡ refused_reply LINE n → d ≤ room_of way n
-      → lines_fit limit (content (kept_by way d n text)) ≡ false → EditsSide limit t n (carried Delete way (Reached d lines)) text recall text recall
+      → lines_fit limit (content (kept_by way d n text)) ≡ false → EditsSide limit t n (carried Delete way (Some (record { steps = d; lines = lines }))) text recall text recall
   unfolding carried
   deleted-long way d lines reply h long =
       refused-long limit n text recall _ reply (deleted-fits way d h) (ap (λ e. lines_fit limit (content e)) (kept-is way d h) ∙ long)
@@ -338,13 +338,13 @@ module _ {limit : ℕ} {n : Sizes} {text recall : List ℕ} (on : OnSide limit n
       (sym on.gap.holds) (sym on.pair.holds)
 
   pub not_carried : (action : Action) (way : Direction) {t : SideReply} {report : Report} → t ≡ done_reply report n → report ≡ rang
-      → EditsSide limit t n (carried action way Nowhere) text recall text recall
+      → EditsSide limit t n (carried action way None) text recall text recall
   unfolding carried
   not_carried Move way reply said = not-did reply said
   not_carried Delete way reply said = not-did reply said
 
   -- A function key does what it does with the passage that was found.
-  pub by-passage : (action : Action) (way : Direction) (place : Place) {t : SideReply} {answer known : Passage} {text_then recall_then : List ℕ}
+  pub by-passage : (action : Action) (way : Direction) (place : Place) {t : SideReply} {answer known : Option Passage} {text_then recall_then : List ℕ}
       → answer ≡ passage_to way (is_at place way) doc → answer ≡ known → EditsSide limit t n (carried action way known) text recall text_then recall_then
       → EditsSide limit t n (function action way place) text recall text_then recall_then
   unfolding function

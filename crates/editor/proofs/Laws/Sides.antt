@@ -1,4 +1,5 @@
 -- Laws of one side, a text with its recall text: what makes a side a session's, and that every edit of a side keeps it.
+use Rattle.std.proofs.Common.{Option, Some, None}
 use mathlib.Core.Path.{◌≡◌, refl}
 use mathlib.Core.Bool.{true}
 use mathlib.Core.List.{[], ◌∷◌}
@@ -14,7 +15,7 @@ use Rattle.gap.proofs.Laws.Tests.{and_both, or_right}
 use Rattle.gap.proofs.Laws.Sequence.{every-both}
 use Rattle.gap.proofs.Laws.Indents.{spaces-allowed}
 use Rattle.gap.proofs.Laws.Holdable.{splice-holdable, deletions-holdable, moves-holdable, removed-holdable}
-use Rattle.editor.specs.Words.{Direction, Left, Right, Passage, Reached, Nowhere, Action, Move, Delete}
+use Rattle.editor.specs.Words.{Direction, Left, Right, Passage, Action, Move, Delete}
 use Rattle.editor.specs.Rules.Plain.{Side}
 use Rattle.editor.specs.Rules.Indents.{leftward, inserted_run, indented_line, newlined, spaces_to_tab, tabbed}
 use Rattle.editor.specs.Rules.Bytes.{sizes_of, one_half}
@@ -33,18 +34,18 @@ removed-half n Right text d = refl
 
 module _ (size : ℕ) (s : Side) (sound : SoundSide size s) where
   -- Moves and deletions keep a side sound, wherever their search ends.
-  pub carried-sound : (action : Action) (way : Direction) (passage : Passage) → SoundSide size (carried action way passage s).state
+  pub carried-sound : (action : Action) (way : Direction) (passage : Option Passage) → SoundSide size (carried action way passage s).state
   unfolding carried
-  carried-sound Move way (Reached n lines) =
-      record { text = moves-holdable size n way s.text sound.text; recall = sound.recall; half = sound.half }
-  carried-sound Move way Nowhere = sound
-  carried-sound Delete way (Reached n lines) =
+  carried-sound Move way (Some passage) =
+      record { text = moves-holdable size passage.steps way s.text sound.text; recall = sound.recall; half = sound.half }
+  carried-sound Move way None = sound
+  carried-sound Delete way (Some passage) =
       record {
-        text = deletions-holdable size n way s.text sound.text;
-        recall = removed-holdable size n way s.text sound.text;
-        half = removed-half n way (times (delete way) n s.text) s.text;
+        text = deletions-holdable size passage.steps way s.text sound.text;
+        recall = removed-holdable size passage.steps way s.text sound.text;
+        half = removed-half passage.steps way (times (delete way) passage.steps s.text) s.text;
       }
-  carried-sound Delete way Nowhere = sound
+  carried-sound Delete way None = sound
 
   -- A pair of allowed bytes around the cursor keeps it sound if the finished text fits: so do an insertion, RECALL, NEWLINE and TAB.
   put-sound : (x : Doc) → every allowed (content x) ≡ true → length (content (splice 0 0 x s.text)) ≤ size

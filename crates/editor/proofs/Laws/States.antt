@@ -1,4 +1,5 @@
 -- Laws of the plain state: what its parts do keeps it a session's, where the finished texts fit.
+use Rattle.std.proofs.Common.{Option, Some, None}
 use mathlib.Core.Path.{◌≡◌, refl, ap, ◌∙◌}
 use mathlib.Core.Bool.{Bool, true, false, cond}
 use mathlib.Core.List.{List, []}
@@ -15,7 +16,7 @@ use Rattle.gap.proofs.Laws.Sequence.{every-left}
 use Rattle.gap.proofs.Laws.Compared.{begins-fits}
 use Rattle.gap.proofs.Laws.Doc.{content-moves}
 use Rattle.gap.proofs.Laws.Holdable.{empty-holdable, content-fits, splice-holdable, left-holdable, right-holdable}
-use Rattle.editor.specs.Words.{Direction, Passage, Reached, Nowhere, Action, Move, Place, Mode, Main, Quoted}
+use Rattle.editor.specs.Words.{Direction, Passage, Action, Move, Place, Mode, Main, Quoted}
 use Rattle.editor.specs.Rules.Places.{is_at}
 use Rattle.editor.specs.Rules.Passages.{passage_to}
 use Rattle.editor.specs.Rules.Plain.{Side, empty_side, Plain, quiet, rang, Did, reporting}
@@ -210,11 +211,11 @@ with-pattern-sound T Q Quoted p sound =
     sound.replacement
 
 -- A move leaves the lines as they are.
-pub moved_lines : (way : Direction) (passage : Passage) (s : Side)
+pub moved_lines : (way : Direction) (passage : Option Passage) (s : Side)
     → lines_fit longest_line (content (carried Move way passage s).state.text) ≡ lines_fit longest_line (content s.text)
 unfolding carried
-moved_lines way (Reached n lines) s = ap (lines_fit longest_line) (content-moves way n s.text)
-moved_lines way Nowhere s = refl
+moved_lines way (Some passage) s = ap (lines_fit longest_line) (content-moves way passage.steps s.text)
+moved_lines way None s = refl
 
 pub searched-sound : (T Q : ℕ) (way : Direction) (p : Plain) → SoundTexts T Q p → SoundTexts T Q (searched way p).state
 unfolding searched

@@ -1,4 +1,5 @@
 -- The request's sentences about MARK, CUT and PASTE, one by one. (02, M-101.)
+use Rattle.std.proofs.Common.{Option, Some, None}
 use mathlib.Core.Path.{◌≡◌, refl, sym, ap, ◌∙◌}
 use mathlib.Core.List.{[], ◌++◌, append-nil}
 use Prim.Native.Nat.{ℕ, ◌+◌, ◌-◌, ◌≤◌, ◌<◌}
@@ -10,7 +11,7 @@ use lib.Seq.{take-length, drop-length, take_at, take-append-le, drop-append-le, 
 use Rattle.gap.specs.Rules.Sequence.{part}
 use Rattle.gap.specs.Rules.Doc.{Doc, empty, content, delete, times, passed, splice, removed}
 use Rattle.gap.proofs.Laws.Doc.{same-texts, deletions-left, deletions-right, insertions}
-use Rattle.editor.specs.Words.{Left, Right, Marking, Unmarked, At}
+use Rattle.editor.specs.Words.{Left, Right}
 use Rattle.editor.specs.Words.{Mark, Cut, Paste}
 use Rattle.editor.specs.Rules.Marks.{mark_through, mark_changed, way_to, far_to}
 use Rattle.editor.specs.Rules.Plain.{Plain, quiet, rang, went, Did, reporting, within}
@@ -22,27 +23,27 @@ use Rattle.editor.proofs.Theorems.Marks.{mark-unchanged, paste-mark}
 -- ---- MARK
 
 -- It sets the mark at the cursor, reports 0 and changes nothing else. A mark that stood elsewhere is no more.
-pub mark-sets : (p : Plain) → pressed Mark p ≡ reporting quiet (with_mark (At (length p.main.text.l)) p)
+pub mark-sets : (p : Plain) → pressed Mark p ≡ reporting quiet (with_mark (Some (length p.main.text.l)) p)
 unfolding pressed acted change_of marked_here
-mark-sets p = ap (λ mark. reporting quiet (with_mark mark p)) (mark-unchanged p.main.text (At (length p.main.text.l)))
+mark-sets p = ap (λ mark. reporting quiet (with_mark mark p)) (mark-unchanged p.main.text (Some (length p.main.text.l)))
 
 -- ---- CUT
 
 -- What it does, by the mark.
-abbrev cut_at : Marking → Plain → Did Plain
+abbrev cut_at : Option ℕ → Plain → Did Plain
 cut_at mark p =
     let did = cut_to mark p in
     within (with_mark (mark_changed (cutting mark (length p.main.text.l)) p.main.text did.state.mark)) did
 
-by-mark : (p : Plain) (mark : Marking) → p.mark ≡ mark → pressed Cut p ≡ cut_at mark p
+by-mark : (p : Plain) (mark : Option ℕ) → p.mark ≡ mark → pressed Cut p ≡ cut_at mark p
 unfolding pressed acted change_of
 by-mark p mark same = ap (λ mark. cut_at mark p) same
 
 -- Without a mark CUT sets the bell and does nothing else.
-pub cut-without-mark : (p : Plain) → p.mark ≡ Unmarked → pressed Cut p ≡ reporting rang p
+pub cut-without-mark : (p : Plain) → p.mark ≡ None → pressed Cut p ≡ reporting rang p
 unfolding cut_to
 cut-without-mark p none =
-    by-mark p Unmarked none ∙ ap (λ mark. reporting rang (with_mark mark p)) (mark-unchanged p.main.text p.mark)
+    by-mark p None none ∙ ap (λ mark. reporting rang (with_mark mark p)) (mark-unchanged p.main.text p.mark)
 
 -- A state with another text and another held pair, and without a mark; all else, the recall text too, is as it was.
 abbrev pub leaving : Doc → Doc → Plain → Plain
@@ -54,7 +55,7 @@ leaving text held p =
       replacement = p.replacement;
       mode = p.mode;
       held = held;
-      mark = Unmarked;
+      mark = None;
     }
 
 -- A deletion as far as a position of the text: the bytes between there and the cursor go.
@@ -90,7 +91,7 @@ module _ (m : ℕ) (d : Doc) where
   unfolding removed passed part
   removed-on = same-texts refl (sym (ap (take (m - length d.l)) (drop-append_seam d.l d.r)))
 
-module _ (p : Plain) (m : ℕ) (marked : p.mark ≡ At m) where
+module _ (p : Plain) (m : ℕ) (marked : p.mark ≡ Some m) where
   -- CUT is the deletion of that many bytes towards the mark, with another store for what it took: a deletion's pair. It reports their number
   -- and no lines, drops the mark and leaves the recall text.
   pub cut-deletes : let l = length p.main.text.l in
@@ -98,7 +99,7 @@ module _ (p : Plain) (m : ℕ) (marked : p.mark ≡ At m) where
       let n = far_to m l in
       pressed Cut p ≡ reporting (went n 0) (leaving (times (delete way) n p.main.text) (removed way n p.main.text) p)
   unfolding cut_to carried mark_through
-  cut-deletes = by-mark p (At m) marked
+  cut-deletes = by-mark p (Some m) marked
 
   -- A mark left of the cursor, or at it: what lies between the two positions goes and is held left of the cursor. (DECISIONS C12.)
   pub cut_left : let d = p.main.text in
@@ -142,7 +143,7 @@ module _ (p : Plain) (m : ℕ) (marked : p.mark ≡ At m) where
       ∙ ap (λ text. reporting quiet (leaving text held p)) (put_back (way_to m l) (far_to m l) p.main.text)
 
 -- With the mark at the cursor: the text as it was, no steps, no bell, nothing held any more, and no mark. (DECISIONS C11.)
-pub cut-at-cursor : (p : Plain) → p.mark ≡ At (length p.main.text.l) → pressed Cut p ≡ reporting quiet (leaving p.main.text empty p)
+pub cut-at-cursor : (p : Plain) → p.mark ≡ Some (length p.main.text.l) → pressed Cut p ≡ reporting quiet (leaving p.main.text empty p)
 unfolding times removed passed
 cut-at-cursor p marked =
     let d = p.main.text in
@@ -153,7 +154,7 @@ cut-at-cursor p marked =
     ∙ ap (λ held. reporting quiet (leaving d held p)) (same-texts (ap (λ k. drop k d.l) (sub-zero l) ∙ drop-length d.l) refl))
 
 -- Whatever the mark was, there is none behind CUT.
-pub cut-drops : (p : Plain) → (pressed Cut p).state.mark ≡ Unmarked
+pub cut-drops : (p : Plain) → (pressed Cut p).state.mark ≡ None
 unfolding pressed acted mark_through
 cut-drops p = ap (mark_changed (change_of Cut p (acted Cut p)) p.main.text) (cut-mark p.mark p refl)
 

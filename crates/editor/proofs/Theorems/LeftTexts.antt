@@ -1,5 +1,6 @@
 -- What a key leaves of the text left of the document's cursor: that text grows at its end, or it is cut there; lines that the key reports are
 -- the newlines that came or went. So the cursor's row after a key follows from its row before. (02, M-104.)
+use Rattle.std.proofs.Common.{Option, Some, None}
 use mathlib.Core.Path.{◌≡◌, refl, sym, ap, ◌∙◌}
 use mathlib.Core.Bool.{Bool, true, false, cond}
 use mathlib.Core.List.{List, [], ◌++◌, append-nil}
@@ -11,9 +12,8 @@ use lib.Seq.{take-length, take_all, take-append_seam}
 use Rattle.gap.specs.Rules.Doc.{Doc, delete, times, splice}
 use Rattle.gap.specs.Rules.Lines.{newlines}
 use Rattle.gap.specs.Rules.Nearest.{distance}
-use Rattle.gap.specs.declared.Search.TheVariants as found
 use Rattle.gap.proofs.Laws.Doc.{moves-left, moves-right, deletions-left, deletions-right}
-use Rattle.editor.specs.Words.{Direction, Left, Right, Search, Action, Move, Delete, Mode, Main, Quoted}
+use Rattle.editor.specs.Words.{Direction, Left, Right, Action, Move, Delete, Mode, Main, Quoted}
 use Rattle.editor.specs.Words.{Key, Insert, Function, Recall, Quote, Find, Replace, Mark, Cut, Paste, Newline, Tab}
 use Rattle.editor.specs.Rules.Places.{is_at}
 use Rattle.editor.specs.Rules.Passages.{with_lines, passage_to}
@@ -70,19 +70,19 @@ taken-left n d = ap (λ e. e.l) (deletions-left n d) ∙ append-nil _
 
 -- ---- Keys on one side
 
-carried-left : (action : Action) (way : Direction) (s : Side) (answer : Search)
+carried-left : (action : Action) (way : Direction) (s : Side) (answer : Option ℕ)
     → let did = carried action way (with_lines way s.text answer) s in LeftKept s.text did.state.text did.report.lines
 unfolding carried with_lines
-carried-left Move Left s (found.Reached n) = shortened n (ap (λ e. e.l) (moves-left n s.text)) (moved-left n s.text)
-carried-left Move Right s (found.Reached n) =
+carried-left Move Left s (Some n) = shortened n (ap (λ e. e.l) (moves-left n s.text)) (moved-left n s.text)
+carried-left Move Right s (Some n) =
     extended (take n s.text.r) (ap (λ e. e.l) (moves-right n s.text)) (λ more some. moved-right n s.text)
-carried-left Delete Left s (found.Reached n) = shortened n (taken-left n s.text) (deleted-left n s.text)
-carried-left Delete Right s (found.Reached n) =
+carried-left Delete Left s (Some n) = shortened n (taken-left n s.text) (deleted-left n s.text)
+carried-left Delete Right s (Some n) =
     stayed (ap (λ e. e.l) (deletions-right n s.text) ∙ (splice-left n _ s.text ∙ append-nil s.text.l))
-carried-left Move Left s found.Nowhere = stayed refl
-carried-left Move Right s found.Nowhere = stayed refl
-carried-left Delete Left s found.Nowhere = stayed refl
-carried-left Delete Right s found.Nowhere = stayed refl
+carried-left Move Left s None = stayed refl
+carried-left Move Right s None = stayed refl
+carried-left Delete Left s None = stayed refl
+carried-left Delete Right s None = stayed refl
 
 moved-so : (action : Action) (way : Direction) (place : Doc → Bool) (s : Side)
     → let did = carried action way (passage_to way place s.text) s in LeftKept s.text did.state.text did.report.lines

@@ -1,5 +1,6 @@
 -- No line longer than the reader takes (02, M-106): in every session no line of the document is, and which keys are refused as LINE. That LINE is
 -- given exactly where the finished document would have such a line, after FULL: refused-line in proofs/Theorems/Refusals.
+use Rattle.std.proofs.Common.{Some}
 use mathlib.Core.Path.{◌≡◌, refl, sym, ap, ◌∙◌}
 use mathlib.Core.Logic.{◌↔◌, ⊎_elim}
 use mathlib.Core.Bool.{true, false}
@@ -17,7 +18,7 @@ use Rattle.gap.specs.Rules.LineLimits.{lines_fit}
 use Rattle.gap.proofs.Laws.Tests.{decided, clash}
 use Rattle.gap.proofs.Laws.Indents.{spaces-suc, leading-fits, length-current}
 use Rattle.gap.proofs.Theorems.LineLimits.{every-line-fits}
-use Rattle.editor.specs.Words.{Direction, Reached, Move, Delete, Place, Mode, Main, Quoted, At}
+use Rattle.editor.specs.Words.{Direction, Move, Delete, Place, Mode, Main, Quoted}
 use Rattle.editor.specs.Words.{Key, Insert, Function, Recall, Quote, Find, Mark, Cut, Newline, Tab}
 use Rattle.editor.specs.declared.Edit.{Edit}
 use Rattle.editor.specs.declared.Edit.TheVariants as edits
@@ -189,7 +190,7 @@ module _ (T Q : ℕ) (p : Plain) (sound : SoundTexts T Q p) where
 
   -- A deletion in the document is refused as LINE exactly where the line that it joins is too long.
   pub delete-line : (way : Direction) (place : Place) (d crossed : ℕ) → p.mode ≡ Main → sound_function Delete way place ≡ true
-      → passage_to way (is_at place way) p.main.text ≡ Reached d crossed
+      → passage_to way (is_at place way) p.main.text ≡ Some d crossed
       → let left = times (delete way) d p.main.text in
       (key T Q (Function Delete way place) p ≡ refused LINE) ↔ (longest_line < since left.l + length (line_of left.r))
   unfolding acted sound_key function carried
@@ -203,7 +204,7 @@ module _ (T Q : ℕ) (p : Plain) (sound : SoundTexts T Q p) where
       )
 
   -- So is CUT, between cursor and mark.
-  pub cut_line : (m : ℕ) → p.mode ≡ Main → p.mark ≡ At m
+  pub cut_line : (m : ℕ) → p.mode ≡ Main → p.mark ≡ Some m
       → let l = length p.main.text.l in
       let left = times (delete (way_to m l)) (far_to m l) p.main.text in
       (key T Q Cut p ≡ refused LINE) ↔ (longest_line < since left.l + length (line_of left.r))

@@ -1,5 +1,6 @@
 -- The request's sentences about the mark, one by one. (02, M-101.) That the text behind a key is the change by which the mark goes: text-changed
 -- and content-changed, passed on from Laws/Changes. That the mark stays within the document: mark-kept in Laws/Marks.
+use Rattle.std.proofs.Common.{Option, Some, None}
 use mathlib.Core.Path.{◌≡◌, refl, sym, ap, ◌∙◌}
 use mathlib.Core.Logic.{⊎_elim, ◌≢◌}
 use mathlib.Core.Bool.{true, false, cond, false≢true}
@@ -14,7 +15,7 @@ use lib.Seq.{take-length}
 use Rattle.gap.specs.Rules.Doc.{Doc, splice}
 use Rattle.gap.proofs.Laws.Tests.{decided}
 use Rattle.gap.proofs.Laws.Doc.{splice-twice}
-use Rattle.editor.specs.Words.{Direction, Left, Right, Move, Delete, Place, Main, Quoted, Marking, Unmarked, At}
+use Rattle.editor.specs.Words.{Direction, Left, Right, Move, Delete, Place, Main, Quoted}
 use Rattle.editor.specs.Words.{Key, Insert, Function, Recall, Quote, Find, Replace, Mark, Cut, Paste, Newline, Tab}
 use Rattle.editor.specs.Rules.Marks.{mark_through, Change, unchanged, putting, taking, mark_changed}
 use Rattle.editor.specs.Rules.Plain.{Plain}
@@ -28,19 +29,19 @@ pub use Rattle.editor.proofs.Laws.Changes.{text-changed, content-changed}
 
 module _ (from gone come m : ℕ) where
   -- Left of the stretch, and at its left end, it stays: insertion at the mark goes after it.
-  pub mark-stays : m ≤ from → mark_through from gone come (At m) ≡ At m
+  pub mark-stays : m ≤ from → mark_through from gone come (Some m) ≡ Some m
   mark-stays h = through-stays from gone come m h
 
   -- A deletion around it, with text removed on both sides of it, takes it away.
-  pub mark-gone : from < m → m < from + gone → mark_through from gone come (At m) ≡ Unmarked
+  pub mark-gone : from < m → m < from + gone → mark_through from gone come (Some m) ≡ None
   mark-gone low high = through-gone from gone come m low high
 
   -- At the right end of the deleted stretch it stays, which is then where the stretch began; what is inserted there goes after it.
-  pub mark-end : m ≡ from + gone → mark_through from gone come (At m) ≡ At from
+  pub mark-end : m ≡ from + gone → mark_through from gone come (Some m) ≡ Some from
   mark-end e = through-end from gone come m e
 
   -- What is inserted or removed wholly to its left moves it by as many bytes.
-  pub mark-moves : from + gone < m → mark_through from gone come (At m) ≡ At (m - gone + come)
+  pub mark-moves : from + gone < m → mark_through from gone come (Some m) ≡ Some (m - gone + come)
   mark-moves h = through-behind from gone come m h
 
 -- Those are all cases.
@@ -59,22 +60,22 @@ by_cases from gone m before inside end behind =
     (decided (leb m from))
 
 -- The same of an insertion alone and of a deletion alone.
-pub mark-inserted : (from come m : ℕ) → from < m → mark_through from 0 come (At m) ≡ At (m + come)
+pub mark-inserted : (from come m : ℕ) → from < m → mark_through from 0 come (Some m) ≡ Some (m + come)
 mark-inserted from come m behind =
-    let same : m - 0 + come ≡ m + come = omega arith in mark-moves from 0 come m (omega arith) ∙ ap At same
+    let same : m - 0 + come ≡ m + come = omega arith in mark-moves from 0 come m (omega arith) ∙ ap Some same
 
-pub mark-removed : (from gone m : ℕ) → from + gone ≤ m → mark_through from gone 0 (At m) ≡ At (m - gone)
+pub mark-removed : (from gone m : ℕ) → from + gone ≤ m → mark_through from gone 0 (Some m) ≡ Some (m - gone)
 mark-removed from gone m left =
-    by_cases from gone m (λ h. let same : m ≡ m - gone = omega arith in mark-stays from gone 0 m h ∙ ap At same)
+    by_cases from gone m (λ h. let same : m ≡ m - gone = omega arith in mark-stays from gone 0 m h ∙ ap Some same)
     (λ low high. absurd (omega arith))
-    (λ e. let same : from ≡ m - gone = omega arith in mark-end from gone 0 m e ∙ ap At same)
-    (λ h. let same : m - gone + 0 ≡ m - gone = omega arith in mark-moves from gone 0 m h ∙ ap At same)
+    (λ e. let same : from ≡ m - gone = omega arith in mark-end from gone 0 m e ∙ ap Some same)
+    (λ h. let same : m - gone + 0 ≡ m - gone = omega arith in mark-moves from gone 0 m h ∙ ap Some same)
 
 -- REPLACE deletes, then inserts: as one change it does the same.
-pub mark-replaced : (from gone come : ℕ) (mark : Marking) → mark_through from gone come mark ≡ mark_through from 0 come (mark_through from gone 0 mark)
+pub mark-replaced : (from gone come : ℕ) (mark : Option ℕ) → mark_through from gone come mark ≡ mark_through from 0 come (mark_through from gone 0 mark)
 unfolding mark_through
-mark-replaced from gone come Unmarked = refl
-mark-replaced from gone come (At m) =
+mark-replaced from gone come None = refl
+mark-replaced from gone come (Some m) =
     let then = mark_through from 0 come in
     by_cases from gone m (λ h. mark-stays from gone come m h ∙ sym (ap then (mark-stays from gone 0 m h) ∙ mark-stays from 0 come m h))
     (λ low high. mark-gone from gone come m low high ∙ sym (ap then (mark-gone from gone 0 m low high)))
@@ -82,14 +83,14 @@ mark-replaced from gone come (At m) =
     (λ h.
     let moved = mark-moves from 0 come (m - gone + 0) (omega arith) in
     let same : m - gone + come ≡ m - gone + 0 - 0 + come = omega arith in
-    mark-moves from gone come m h ∙ (ap At same ∙ sym (ap then (mark-moves from gone 0 m h) ∙ moved)))
+    mark-moves from gone come m h ∙ (ap Some same ∙ sym (ap then (mark-moves from gone 0 m h) ∙ moved)))
 
 -- The two as changes of a document, first the bytes behind the cursor gone and then the pair put in: text and mark are those of the one change.
 module _ (k : ℕ) (x d : Doc) where
   pub text_in-two : changed (record { before = 0; behind = k; put = x }) d ≡ changed (putting x) (changed (taking Right k) d)
   text_in-two = sym (splice-twice k x d)
 
-  pub mark-in-two : (mark : Marking)
+  pub mark-in-two : (mark : Option ℕ)
       → mark_changed (record { before = 0; behind = k; put = x }) d mark
       ≡ mark_changed (putting x) (changed (taking Right k) d) (mark_changed (taking Right k) d mark)
   unfolding splice
@@ -99,7 +100,7 @@ module _ (k : ℕ) (x d : Doc) where
       rw same (mark-replaced (length d.l - 0) (0 + k) (size x) mark)
 
 -- Where nothing changes, it stays.
-pub mark-unchanged : (d : Doc) (mark : Marking) → mark_changed unchanged d mark ≡ mark
+pub mark-unchanged : (d : Doc) (mark : Option ℕ) → mark_changed unchanged d mark ≡ mark
 mark-unchanged d mark = through-nothing (length d.l - 0) mark
 
 -- ---- The mark behind a key
@@ -213,40 +214,40 @@ module _ (p : Plain) where
       mark-pressed Replace p refl
       ∙ (ap (λ bell. mark_changed (cond bell unchanged c) p.main.text p.mark) silent ∙ rw (sub-zero, zero-add))
 
-  module _ (m : ℕ) (marked : p.mark ≡ At m) where
+  module _ (m : ℕ) (marked : p.mark ≡ Some m) where
     -- Insertion at the mark goes after it, the right half of a pair too: with the mark at the cursor, or left of it, the mark stays.
     -- (DECISIONS C10.)
     module _ (here : m ≤ length p.main.text.l) where
-      stays-before : (come : ℕ) → mark_through (length p.main.text.l) 0 come p.mark ≡ At m
+      stays-before : (come : ℕ) → mark_through (length p.main.text.l) 0 come p.mark ≡ Some m
       stays-before come = ap (mark_through (length p.main.text.l) 0 come) marked ∙ mark-stays (length p.main.text.l) 0 come m here
 
-      pub paste-after-mark : (pressed Paste p).state.mark ≡ At m
+      pub paste-after-mark : (pressed Paste p).state.mark ≡ Some m
       paste-after-mark = paste-mark ∙ stays-before (size p.held)
 
-      pub insert-after-mark : p.mode ≡ Main → (b : ℕ) → (pressed (Insert b) p).state.mark ≡ At m
+      pub insert-after-mark : p.mode ≡ Main → (b : ℕ) → (pressed (Insert b) p).state.mark ≡ Some m
       insert-after-mark main b = insert-mark main b ∙ stays-before 1
 
-      pub recall-after-mark : p.mode ≡ Main → (pressed Recall p).state.mark ≡ At m
+      pub recall-after-mark : p.mode ≡ Main → (pressed Recall p).state.mark ≡ Some m
       recall-after-mark main = recall-mark main ∙ stays-before (size p.main.recall)
 
     -- Wholly to its left, what goes in moves it by as many bytes.
     module _ (left : length p.main.text.l < m) where
-      moves-on : (come : ℕ) → mark_through (length p.main.text.l) 0 come p.mark ≡ At (m + come)
+      moves-on : (come : ℕ) → mark_through (length p.main.text.l) 0 come p.mark ≡ Some (m + come)
       moves-on come = ap (mark_through (length p.main.text.l) 0 come) marked ∙ mark-inserted (length p.main.text.l) come m left
 
-      pub paste-moves-mark : (pressed Paste p).state.mark ≡ At (m + size p.held)
+      pub paste-moves-mark : (pressed Paste p).state.mark ≡ Some (m + size p.held)
       paste-moves-mark = paste-mark ∙ moves-on (size p.held)
 
-      pub insert-moves-mark : p.mode ≡ Main → (b : ℕ) → (pressed (Insert b) p).state.mark ≡ At (m + 1)
+      pub insert-moves-mark : p.mode ≡ Main → (b : ℕ) → (pressed (Insert b) p).state.mark ≡ Some (m + 1)
       insert-moves-mark main b = insert-mark main b ∙ moves-on 1
 
-      pub recall-moves-mark : p.mode ≡ Main → (pressed Recall p).state.mark ≡ At (m + size p.main.recall)
+      pub recall-moves-mark : p.mode ≡ Main → (pressed Recall p).state.mark ≡ Some (m + size p.main.recall)
       recall-moves-mark main = recall-mark main ∙ moves-on (size p.main.recall)
 
     -- A deletion around it, with text removed on both sides of it, takes it away.
     pub delete-left-around : p.mode ≡ Main → (place : Place)
         → let n = (pressed (Function Delete Left place) p).report.steps in
-        length p.main.text.l - n < m → m < length p.main.text.l → (pressed (Function Delete Left place) p).state.mark ≡ Unmarked
+        length p.main.text.l - n < m → m < length p.main.text.l → (pressed (Function Delete Left place) p).state.mark ≡ None
     delete-left-around main place low high =
         let n = (pressed (Function Delete Left place) p).report.steps in
         let l = length p.main.text.l in
@@ -254,7 +255,7 @@ module _ (p : Plain) where
 
     pub delete-right-around : p.mode ≡ Main → (place : Place)
         → let n = (pressed (Function Delete Right place) p).report.steps in
-        length p.main.text.l < m → m < length p.main.text.l + n → (pressed (Function Delete Right place) p).state.mark ≡ Unmarked
+        length p.main.text.l < m → m < length p.main.text.l + n → (pressed (Function Delete Right place) p).state.mark ≡ None
     delete-right-around main place low high =
         let n = (pressed (Function Delete Right place) p).report.steps in
         let l = length p.main.text.l in
@@ -264,11 +265,11 @@ module _ (p : Plain) where
     -- (DECISIONS C9.)
     module _ (silent : (pressed Replace p).report.bell ≡ false) where
       pub replace-at-end : m ≡ length p.main.text.l + length (pressed Replace p).state.pattern
-          → (pressed Replace p).state.mark ≡ At (length p.main.text.l)
+          → (pressed Replace p).state.mark ≡ Some (length p.main.text.l)
       replace-at-end e =
           replace-mark silent ∙ (ap (mark_through _ _ (size (pressed Replace p).state.replacement)) marked ∙ mark-end _ _ _ m e)
 
       pub replace-around : length p.main.text.l < m → m < length p.main.text.l + length (pressed Replace p).state.pattern
-          → (pressed Replace p).state.mark ≡ Unmarked
+          → (pressed Replace p).state.mark ≡ None
       replace-around low high =
           replace-mark silent ∙ (ap (mark_through _ _ (size (pressed Replace p).state.replacement)) marked ∙ mark-gone _ _ _ m low high)

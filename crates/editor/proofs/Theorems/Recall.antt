@@ -1,5 +1,6 @@
 -- RECALL straight after a deletion restores text and cursor where the deletion found its place, and puts the older recall text in where it
 -- rang (01, recall text; 02, M-103). Moves and searches keep the content.
+use Rattle.std.proofs.Common.{Option, Some, None}
 use mathlib.Core.Path.{◌≡◌, refl, sym, ap, subst, subst⁻¹, ◌∙◌}
 use mathlib.Core.Logic.{◌↔◌}
 use mathlib.Core.Bool.{true, false≢true}
@@ -14,7 +15,7 @@ use Rattle.gap.specs.Rules.LineLimits.{none_longer, lines_fit}
 use Rattle.gap.specs.Rules.Nearest.{nearest, distance}
 use Rattle.gap.proofs.Laws.Tests.{clash}
 use Rattle.gap.proofs.Laws.Doc.{insertions}
-use Rattle.editor.specs.Words.{Direction, Left, Right, Passage, Reached, Nowhere, Action, Move, Delete, Place, Character, Mode, Main, Quoted, Marking}
+use Rattle.editor.specs.Words.{Direction, Left, Right, Passage, Action, Move, Delete, Place, Character, Mode, Main, Quoted}
 use Rattle.editor.specs.Words.{Function, Recall, Find}
 use Rattle.editor.specs.Rules.Refusals.{FULL, LINE}
 use Rattle.editor.specs.Rules.LongLines.{longest_line, readable}
@@ -38,13 +39,13 @@ use Rattle.editor.proofs.Theorems.Sessions.{opening-sound, keys-keep}
 -- ---- The bell
 
 -- A function key that rings has found no place, and text and recall text stay as they were. (02, M-103: in QUOTED too.)
-carried-rings : (action : Action) (way : Direction) (passage : Passage) (s : Side) → (carried action way passage s).report.bell ≡ true
+carried-rings : (action : Action) (way : Direction) (passage : Option Passage) (s : Side) → (carried action way passage s).report.bell ≡ true
     → (carried action way passage s).state ≡ s
 unfolding carried
-carried-rings Move way (Reached n lines) s bell = absurd (false≢true bell)
-carried-rings Move way Nowhere s bell = refl
-carried-rings Delete way (Reached n lines) s bell = absurd (false≢true bell)
-carried-rings Delete way Nowhere s bell = refl
+carried-rings Move way (Some passage) s bell = absurd (false≢true bell)
+carried-rings Move way None s bell = refl
+carried-rings Delete way (Some passage) s bell = absurd (false≢true bell)
+carried-rings Delete way None s bell = refl
 
 same-side : (mode : Mode) (p : Plain) → with_side mode (side_of mode p) p ≡ p
 same-side Main p = refl
@@ -58,15 +59,15 @@ rings-stays action way place p rung =
     ap (λ s. with_side p.mode s p) (carried-rings action way (passage_to way (is_at place way) s.text) s rung) ∙ same-side p.mode p
 
 -- It reports no steps, so that the mark goes through no change.
-rings-no-steps : (action : Action) (way : Direction) (passage : Passage) (s : Side) → (carried action way passage s).report.bell ≡ true
+rings-no-steps : (action : Action) (way : Direction) (passage : Option Passage) (s : Side) → (carried action way passage s).report.bell ≡ true
     → (carried action way passage s).report.steps ≡ 0
 unfolding carried
-rings-no-steps Move way (Reached n lines) s bell = absurd (false≢true bell)
-rings-no-steps Move way Nowhere s bell = refl
-rings-no-steps Delete way (Reached n lines) s bell = absurd (false≢true bell)
-rings-no-steps Delete way Nowhere s bell = refl
+rings-no-steps Move way (Some passage) s bell = absurd (false≢true bell)
+rings-no-steps Move way None s bell = refl
+rings-no-steps Delete way (Some passage) s bell = absurd (false≢true bell)
+rings-no-steps Delete way None s bell = refl
 
-nothing-taken : (mode : Mode) (way : Direction) (d : Doc) (mark : Marking) → mark_changed (of_document mode (taking way 0)) d mark ≡ mark
+nothing-taken : (mode : Mode) (way : Direction) (d : Doc) (mark : Option ℕ) → mark_changed (of_document mode (taking way 0)) d mark ≡ mark
 nothing-taken Main Left d mark = through-nothing _ mark
 nothing-taken Main Right d mark = through-nothing _ mark
 nothing-taken Quoted way d mark = through-nothing _ mark
@@ -132,11 +133,11 @@ recall-long T Q p =
 -- ---- A deletion that found its place
 
 -- RECALL straight after it: the text is as it was, cursor included, and the recall text is what the deletion made it.
-recall-carried : (way : Direction) (passage : Passage) (s : Side) → 1 ≤ (carried Delete way passage s).report.steps
+recall-carried : (way : Direction) (passage : Option Passage) (s : Side) → 1 ≤ (carried Delete way passage s).report.steps
     → recalled (carried Delete way passage s).state ≡ reporting quiet (record { text = s.text; recall = (carried Delete way passage s).state.recall })
 unfolding recalled carried
-recall-carried way (Reached n lines) s some = λ i. reporting quiet (record { text = put_back way n s.text i; recall = removed way n s.text })
-recall-carried way Nowhere s some = absurd (omega (arith, some))
+recall-carried way (Some passage) s some = λ i. reporting quiet (record { text = put_back way passage.steps s.text i; recall = removed way passage.steps s.text })
+recall-carried way None s some = absurd (omega (arith, some))
 
 pub recall-after-deletion : (way : Direction) (place : Place) (s : Side) → 1 ≤ (function Delete way place s).report.steps
     → recalled (function Delete way place s).state
@@ -170,7 +171,7 @@ recalled-state way place p some =
     ∙ ap (λ d. within (λ s. with_side p.mode s p) d) (recall-after-deletion way place s some))
 
 -- RECALL after that, whatever mark there is: its own change moves the mark on.
-recalled-marked : (mark : Marking) (way : Direction) (place : Place) (p : Plain)
+recalled-marked : (mark : Option ℕ) (way : Direction) (place : Place) (p : Plain)
     → let after = on_side (function Delete way place) p in
     let q = with_mark mark after.state in 1 ≤ after.report.steps
     → pressed Recall q ≡ reporting quiet (with_mark (recall_put_in q).mark (with_recall (side_of p.mode after.state).recall p))

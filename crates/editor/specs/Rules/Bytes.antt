@@ -1,7 +1,7 @@
 -- The plain state as record and stores: writing it down, reading it back, and the session test without the window's part.
 -- T is the length of the text store, Q that of a quarter of the side store.
-use Rattle.editor.specs.Words.{Mode, Main, Quoted, Unmarked, Sizes, Lengths}
-use Rattle.std.specs.Prelude.{◌≡◌, List, [], ◌++◌, Bool, true, ◌&&◌, ◌||◌, ℕ, ◌*◌, eqb, ◌+◌, leb, length}
+use Rattle.editor.specs.Words.{Mode, Main, Quoted, Sizes, Lengths}
+use Rattle.std.specs.Prelude.{◌≡◌, List, [], ◌++◌, Bool, true, ◌&&◌, ◌||◌, ℕ, ◌*◌, eqb, ◌+◌, leb, length, None}
 use Rattle.gap.specs.Rules.Sequence.{part}
 use Rattle.gap.specs.Rules.Doc.{Doc, content}
 use Rattle.gap.specs.Rules.LineLimits.{lines_fit}
@@ -87,7 +87,7 @@ opening_lengths n =
       mode = Main;
       hl = 0;
       hr = 0;
-      mark = Unmarked;
+      mark = None;
     }
 
 unfoldable pub stores_of : ℕ → ℕ → Plain → Stores

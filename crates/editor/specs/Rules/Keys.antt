@@ -1,10 +1,9 @@
 -- The keys on the plain state. (01, plain editor, from the function keys on.)
 use Rattle.gap.specs.Rules.Checks.{Check, check, unless}
-use Rattle.editor.specs.Words.{Marking, Unmarked, At}
-use Rattle.editor.specs.Words.{Direction, Left, Right, Passage, Reached, Nowhere, Action, Move, Delete, Mode, Main, Quoted}
+use Rattle.editor.specs.Words.{Direction, Left, Right, Passage, Action, Move, Delete, Mode, Main, Quoted}
 use Rattle.editor.specs.Words.{Place, Character, Word, LineBeginning, LineEnding, Document}
 use Rattle.editor.specs.Words.{Key, Insert, Function, Recall, Quote, Find, Replace, Mark, Cut, Paste, Newline, Tab}
-use Rattle.std.specs.Prelude.{◌≡◌, ◌⊎◌, ◌<◌, get_or, List, [], ◌∷◌, Bool, true, false, ◌&&◌, cond, ℕ, leb, length}
+use Rattle.std.specs.Prelude.{◌≡◌, ◌⊎◌, ◌<◌, get_or, List, [], ◌∷◌, Bool, true, false, ◌&&◌, cond, ℕ, leb, length, Option, Some, None}
 use Rattle.gap.specs.Rules.Sequence.{begins}
 use Rattle.gap.specs.Rules.Doc.{Doc, content, move, delete, times, removed, splice}
 use Rattle.gap.specs.Rules.Lines.{lines}
@@ -57,14 +56,16 @@ unfoldable pub inserted : ℕ → Side → Did Side
 inserted b s = reporting quiet (record { text = splice 0 0 (record { l = b ∷ []; r = [] }) s.text; recall = s.recall })
 
 -- A function key at its distance: that many single steps, reported with the newlines that they pass. A deletion leaves what it took as recall
--- text; a move leaves the recall text alone. Nowhere rings, and text and recall text stay. (01, plain editor: distance, recall text. 02, M-103:
+-- text; a move leaves the recall text alone. Where there is no place it rings, and text and recall text stay. (01, plain editor: distance, recall text. 02, M-103:
 -- with the bell, in place of 01's empty pair; M-104: lines. DECISIONS B4, B30.)
-unfoldable pub carried : Action → Direction → Passage → Side → Did Side
-carried Move way (Reached n lines) s = reporting (went n lines) (record { text = times (move way) n s.text; recall = s.recall })
-carried Move way Nowhere s = reporting rang s
-carried Delete way (Reached n lines) s =
-    reporting (went n lines) (record { text = times (delete way) n s.text; recall = removed way n s.text })
-carried Delete way Nowhere s = reporting rang s
+unfoldable pub carried : Action → Direction → Option Passage → Side → Did Side
+carried Move way (Some passage) s =
+    reporting (went passage.steps passage.lines) (record { text = times (move way) passage.steps s.text; recall = s.recall })
+carried Move way None s = reporting rang s
+carried Delete way (Some passage) s =
+    reporting (went passage.steps passage.lines)
+    (record { text = times (delete way) passage.steps s.text; recall = removed way passage.steps s.text })
+carried Delete way None s = reporting rang s
 
 unfoldable pub function : Action → Direction → Place → Side → Did Side
 function action way place s = carried action way (passage_to way (is_at place way) s.text) s
@@ -181,7 +182,7 @@ replaced p = substituted (with_replacement p.mode p)
 
 -- ---- Keys about the mark
 
-abbrev pub with_mark : Marking → Plain → Plain
+abbrev pub with_mark : Option ℕ → Plain → Plain
 with_mark mark p =
     record {
       main = p.main;
@@ -195,7 +196,7 @@ with_mark mark p =
 
 -- MARK sets the mark at the cursor. (02, M-101.)
 unfoldable pub marked_here : Plain → Did Plain
-marked_here p = reporting quiet (with_mark (At (length p.main.text.l)) p)
+marked_here p = reporting quiet (with_mark (Some (length p.main.text.l)) p)
 
 -- The document with another text and another held pair; the recall text stays.
 abbrev pub with_holding : Side → Plain → Plain
@@ -212,11 +213,11 @@ with_holding s p =
 
 -- CUT is the deletion of the bytes between cursor and mark, held in the place of recall text, and drops the mark. It reports their number and no
 -- lines. Without a mark there is the bell, and nothing else. (02, M-101. DECISIONS C11, C12, C16.)
-unfoldable pub cut_to : Marking → Plain → Did Plain
-cut_to Unmarked p = reporting rang p
-cut_to (At m) p =
+unfoldable pub cut_to : Option ℕ → Plain → Did Plain
+cut_to None p = reporting rang p
+cut_to (Some m) p =
     let l = length p.main.text.l in
-    within (λ s. with_mark Unmarked (with_holding s p)) (carried Delete (way_to m l) (Reached (far_to m l) 0) (holding p))
+    within (λ s. with_mark None (with_holding s p)) (carried Delete (way_to m l) (Some (record { steps = far_to m l; lines = 0 })) (holding p))
 
 abbrev pub cut : Plain → Did Plain
 cut p = cut_to p.mark p
@@ -247,9 +248,9 @@ abbrev pub of_document : Mode → Change → Change
 of_document Main c = c
 of_document Quoted c = unchanged
 
-abbrev pub cutting : Marking → ℕ → Change
-cutting Unmarked l = unchanged
-cutting (At m) l = taking (way_to m l) (far_to m l)
+abbrev pub cutting : Option ℕ → ℕ → Change
+cutting None l = unchanged
+cutting (Some m) l = taking (way_to m l) (far_to m l)
 
 unfoldable pub change_of : Key → Plain → Did Plain → Change
 change_of (Insert b) p did = of_document p.mode (putting (record { l = b ∷ []; r = [] }))

@@ -1,6 +1,6 @@
 -- The editor's state without bytes, and what a key reports.
-use Rattle.std.specs.Prelude.{List, [], true, false, ℕ}
-use Rattle.editor.specs.Words.{Mode, Main, Marking, Unmarked, Report}
+use Rattle.std.specs.Prelude.{List, [], true, false, ℕ, Option, None}
+use Rattle.editor.specs.Words.{Mode, Main, Report}
 use Rattle.gap.specs.Rules.Doc.{Doc, empty}
 
 -- A text and what its last deletion took: the document has such a side, and so has the quotation.
@@ -19,7 +19,7 @@ pub record Plain : Type 0 where
   pub replacement : Doc
   pub mode : Mode
   pub held : Doc
-  pub mark : Marking
+  pub mark : Option ℕ
 
 -- The document with the held pair in the place of its recall text.
 abbrev pub holding : Plain → Side
@@ -35,7 +35,7 @@ opening text =
       replacement = empty;
       mode = Main;
       held = empty;
-      mark = Unmarked;
+      mark = None;
     }
 
 -- The three ways to report: nothing to say, nothing found, or n steps gone over so many newlines. (01, plain editor: steps, bell. 02, M-104:

@@ -1,8 +1,7 @@
 -- What request M-105 says of NEWLINE and TAB, each sentence with its examples: `|` is the cursor, `^` the mark. Then the formula of 001.
-use Rattle.std.specs.Prelude.{List, [], ◌∷◌, ◌++◌, Bool, not, ◌&&◌, cond, ℕ, zero, suc, ◌-◌, eqb, length}
-use Rattle.editor.specs.Words.{Left, Search, Character}
+use Rattle.std.specs.Prelude.{List, [], ◌∷◌, ◌++◌, Bool, not, ◌&&◌, cond, ℕ, zero, suc, ◌-◌, eqb, length, Option, Some, None}
+use Rattle.editor.specs.Words.{Left, Character}
 use Rattle.editor.specs.Words.{Insert, Recall, Quote, Newline, Tab, Quoted}
-use Rattle.gap.specs.declared.Search.TheVariants as found
 use Rattle.gap.specs.Rules.Strings.{bytes}
 use Rattle.gap.specs.Rules.Doc.{Doc, move, times}
 use Rattle.gap.specs.Rules.Nearest.{nearest}
@@ -143,9 +142,9 @@ indent_pins =
 
 -- 001, Appendix 2: margin = col - word1, where col = min0 {n | left(move)^n d in line} and word1 = max0 {n | left(move)^n d in (word - line) and
 -- n < col}; min0 and max0 of no numbers are 0. No more moves count than there is room for.
-abbrev pub or_zero : Search → ℕ
-or_zero (found.Reached n) = n
-or_zero found.Nowhere = 0
+abbrev pub or_zero : Option ℕ → ℕ
+or_zero (Some n) = n
+or_zero None = 0
 
 abbrev pub col : Doc → ℕ
 col d = or_zero (nearest (λ n. line_beginning (times (move Left) n d)) (suc (length d.l)) 0)

@@ -1,10 +1,10 @@
 -- Examples of keys: the cursor stands at the bar, the keys are pressed, and facts are stated of the last one.
 -- proofs/Theorems/Pins computes them on the plain state, and the window layer's Pins on bytes.
-use Rattle.std.specs.Prelude.{map, List, [], ◌∷◌, ◌++◌, Bool, true, false, ◌&&◌, cond, ℕ, suc, ◌-◌, eqb, length}
+use Rattle.std.specs.Prelude.{map, List, [], ◌∷◌, ◌++◌, Bool, true, false, ◌&&◌, cond, ℕ, suc, ◌-◌, eqb, length, Option, Some, None}
 use Prim.Native.Char.{code}
 use Prim.Native.String.{String}
 use Rattle.editor.specs.Words.{Left, Right, Place, Character}
-use Rattle.editor.specs.Words.{Move, Delete, Key, Insert, Function, Quote, Mark, Mode, Main, Quoted, Marking, Unmarked, At, Report}
+use Rattle.editor.specs.Words.{Move, Delete, Key, Insert, Function, Quote, Mark, Mode, Main, Quoted, Report}
 use Rattle.gap.specs.Rules.Strings.{bytes}
 use Rattle.gap.specs.Rules.Doc.{Doc, empty, times}
 use Rattle.gap.specs.Tables.Written.{marked, is_bytes, is_doc, same_bool}
@@ -46,22 +46,22 @@ same_mode Main Quoted = false
 same_mode Quoted Main = false
 same_mode Quoted Quoted = true
 
-abbrev pub same_marking : Marking → Marking → Bool
-same_marking Unmarked Unmarked = true
-same_marking Unmarked (At n) = false
-same_marking (At m) Unmarked = false
-same_marking (At m) (At n) = eqb m n
+abbrev pub same_marking : Option ℕ → Option ℕ → Bool
+same_marking None None = true
+same_marking None (Some n) = false
+same_marking (Some m) None = false
+same_marking (Some m) (Some n) = eqb m n
 
 -- A text written with `^` (94) at its mark: the text without it, and where the mark is, with n bytes before what is read. The bar does not count.
 unfoldable pub unmarked : String → String
 unmarked String.[] = String.[]
 unmarked (String.◌∷◌ c s) = cond (eqb (code c) 94) s (String.◌∷◌ c (unmarked s))
 
-unfoldable pub mark_after : ℕ → List ℕ → Marking
-mark_after n [] = Unmarked
-mark_after n (b ∷ s) = cond (eqb b 94) (At n) (mark_after (cond (eqb b 124) n (suc n)) s)
+unfoldable pub mark_after : ℕ → List ℕ → Option ℕ
+mark_after n [] = None
+mark_after n (b ∷ s) = cond (eqb b 94) (Some n) (mark_after (cond (eqb b 124) n (suc n)) s)
 
-abbrev pub mark_in : String → Marking
+abbrev pub mark_in : String → Option ℕ
 mark_in s = mark_after 0 (bytes s)
 
 unfoldable pub states : Seen → KeyFact → Bool
@@ -102,9 +102,9 @@ abbrev pub moving : ℕ → ℕ → List Key
 moving a b = times (◌∷◌ (move_left Character)) (a - b) (times (◌∷◌ (move_right Character)) (b - a) [])
 
 -- The mark is set from a cursor behind l bytes, and the cursor is there again.
-abbrev pub setting : Marking → ℕ → List Key
-setting Unmarked l = []
-setting (At m) l = moving l m ++ (Mark ∷ moving m l)
+abbrev pub setting : Option ℕ → ℕ → List Key
+setting None l = []
+setting (Some m) l = moving l m ++ (Mark ∷ moving m l)
 
 abbrev pub typed : String → List Key
 typed s = map Insert (bytes s)
@@ -144,7 +144,7 @@ standing d =
       replacement = empty;
       mode = Main;
       held = empty;
-      mark = Unmarked;
+      mark = None;
     }
 
 abbrev pub seen_after : Plain → Outcome → Seen

@@ -1,6 +1,6 @@
 -- What request M-106 says of long lines, on documents of one letter, for so long a line cannot be read.
-use Rattle.std.specs.Prelude.{List, [], ◌∷◌, Bool, not, ℕ, eqb, length}
-use Rattle.editor.specs.Words.{Quoted, At, Character, Document}
+use Rattle.std.specs.Prelude.{List, [], ◌∷◌, Bool, not, ℕ, eqb, length, Some}
+use Rattle.editor.specs.Words.{Quoted, Character, Document}
 use Rattle.editor.specs.Words.{Key, Insert, Recall, Quote, Replace, Mark, Cut, Paste, Newline, Tab}
 use Rattle.gap.specs.Rules.Sequence.{zeros}
 use Rattle.gap.specs.Rules.Doc.{content, times}
@@ -80,7 +80,7 @@ line_pins =
     ∷ sentence "a refused deletion leaves text, recall text, held pair and mark"
     (is_doc joined.main.recall "|b"
     ∷ is_doc joined.held "|a"
-    ∷ same_marking joined.mark (At 501)
+    ∷ same_marking joined.mark (Some 501)
     ∷ eqb (length (content joined.main.text)) 1026
     ∷ [])
     ∷ sentence "the quotation has no such limit, and the document with the quotation in it is not looked at"

@@ -1,7 +1,7 @@
 -- What request M-101 says of the mark, each sentence with its examples: `|` is the cursor, `^` the mark, a position between bytes.
-use Rattle.std.specs.Prelude.{List, [], ◌∷◌, ◌++◌, Bool, ◌&&◌, ℕ, eqb}
+use Rattle.std.specs.Prelude.{List, [], ◌∷◌, ◌++◌, Bool, ◌&&◌, ℕ, eqb, Option, Some, None}
 use Rattle.editor.specs.Words.{Left, Right, Character, Word, LineEnding, Document}
-use Rattle.editor.specs.Words.{Key, Insert, Recall, Quote, Find, Replace, Mark, Cut, Paste, Main, Quoted, Marking, Unmarked, At}
+use Rattle.editor.specs.Words.{Key, Insert, Recall, Quote, Find, Replace, Mark, Cut, Paste, Main, Quoted}
 use Prim.Native.String.{String}
 use Rattle.gap.specs.Tables.Sentence.{Sentence, sentence}
 use Rattle.gap.specs.Tables.Written.{is_doc}
@@ -138,7 +138,7 @@ mark_pins =
 -- ---- The mark in numbers, and what each key changes
 
 -- From position 3 on 4 bytes go, and 2 come.
-abbrev pub through : Marking → Marking
+abbrev pub through : Option ℕ → Option ℕ
 through mark = mark_through 3 4 2 mark
 
 abbrev pub is_change : Change → ℕ → ℕ → String → Bool
@@ -154,23 +154,23 @@ changes at before k gone goneBehind put = is_change (change_at (seen_in (example
 abbrev pub change_pins : List (Sentence Bool)
 change_pins =
     sentence "up to the stretch's beginning the mark stays, inside it goes, at the end it is where the stretch began, behind it moves"
-    (same_marking (through Unmarked) Unmarked
-    ∷ same_marking (through (At 0)) (At 0)
-    ∷ same_marking (through (At 2)) (At 2)
-    ∷ same_marking (through (At 3)) (At 3)
-    ∷ same_marking (through (At 4)) Unmarked
-    ∷ same_marking (through (At 6)) Unmarked
-    ∷ same_marking (through (At 7)) (At 3)
-    ∷ same_marking (through (At 8)) (At 6)
-    ∷ same_marking (through (At 20)) (At 18)
+    (same_marking (through None) None
+    ∷ same_marking (through (Some 0)) (Some 0)
+    ∷ same_marking (through (Some 2)) (Some 2)
+    ∷ same_marking (through (Some 3)) (Some 3)
+    ∷ same_marking (through (Some 4)) None
+    ∷ same_marking (through (Some 6)) None
+    ∷ same_marking (through (Some 7)) (Some 3)
+    ∷ same_marking (through (Some 8)) (Some 6)
+    ∷ same_marking (through (Some 20)) (Some 18)
     ∷ [])
     ∷ sentence "where nothing goes it is an insertion, where nothing comes a deletion, and where neither is nothing moves"
-    (same_marking (mark_through 3 0 2 (At 3)) (At 3)
-    ∷ same_marking (mark_through 3 0 2 (At 4)) (At 6)
-    ∷ same_marking (mark_through 3 4 0 (At 7)) (At 3)
-    ∷ same_marking (mark_through 3 4 0 (At 8)) (At 4)
-    ∷ same_marking (mark_through 3 0 0 (At 3)) (At 3)
-    ∷ same_marking (mark_through 3 0 0 (At 4)) (At 4)
+    (same_marking (mark_through 3 0 2 (Some 3)) (Some 3)
+    ∷ same_marking (mark_through 3 0 2 (Some 4)) (Some 6)
+    ∷ same_marking (mark_through 3 4 0 (Some 7)) (Some 3)
+    ∷ same_marking (mark_through 3 4 0 (Some 8)) (Some 4)
+    ∷ same_marking (mark_through 3 0 0 (Some 3)) (Some 3)
+    ∷ same_marking (mark_through 3 0 0 (Some 4)) (Some 4)
     ∷ [])
     ∷ sentence "the document changes by an insertion, a deletion's steps, the recall pair, REPLACE at a match, what lies up to the mark, the held pair"
     (changes "ab|c" [] (Insert 120) 0 0 "x|"

@@ -1,9 +1,8 @@
 -- What document 01 and request M-101 say of lengths, stores and sessions, on stores so small that they can be read: T is 6, and a quarter
 -- has 4 bytes. A free byte is written `_`.
-use Rattle.std.specs.Prelude.{List, [], ◌∷◌, Bool, not, ◌&&◌, ℕ, eqb}
+use Rattle.std.specs.Prelude.{List, [], ◌∷◌, Bool, not, ◌&&◌, ℕ, eqb, Option, Some, None}
 use Prim.Native.String.{String}
 use Rattle.editor.specs.Words.{Mode, Main, Quoted, Sizes, Lengths}
-use Rattle.editor.specs.Words.{Marking, Unmarked, At}
 use Rattle.editor.specs.Words.{Move, Right, Character, Insert, Function, Quote}
 use Rattle.gap.specs.Rules.Sequence.{same_bytes}
 use Rattle.gap.specs.Rules.Strings.{bytes}
@@ -25,18 +24,18 @@ full =
       replacement = marked "mn|op";
       mode = Quoted;
       held = marked "|qrstu";
-      mark = At 1;
+      mark = Some 1;
     }
 
 abbrev pub sizes : ℕ → ℕ → ℕ → ℕ → Sizes
 sizes l r rl rr = record { l = l; r = r; rl = rl; rr = rr }
 
-abbrev pub lengths : Sizes → Sizes → ℕ → ℕ → ℕ → Mode → ℕ → ℕ → Marking → Lengths
+abbrev pub lengths : Sizes → Sizes → ℕ → ℕ → ℕ → Mode → ℕ → ℕ → Option ℕ → Lengths
 lengths main quoted xl xr pl mode hl hr mark =
     record { main = main; quoted = quoted; xl = xl; xr = xr; pl = pl; mode = mode; hl = hl; hr = hr; mark = mark }
 
 abbrev pub full_lengths : Lengths
-full_lengths = lengths (sizes 2 1 0 1) (sizes 1 2 2 0) 2 2 3 Quoted 0 5 (At 1)
+full_lengths = lengths (sizes 2 1 0 1) (sizes 1 2 2 0) 2 2 3 Quoted 0 5 (Some 1)
 
 abbrev pub stores : String → String → String → String → Stores
 stores text recall held side = record { text = stored text; recall = stored recall; held = stored held; side = stored side }
@@ -82,11 +81,11 @@ layout_pins =
     ∷ is_doc (plain_of 4 full_lengths full_stores).replacement "mn|op"
     ∷ same_mode (plain_of 4 full_lengths full_stores).mode Quoted
     ∷ is_doc (plain_of 4 full_lengths full_stores).held "|qrstu"
-    ∷ same_marking (plain_of 4 full_lengths full_stores).mark (At 1)
+    ∷ same_marking (plain_of 4 full_lengths full_stores).mark (Some 1)
     ∷ [])
     ∷ sentence "opening: all of the text lies right of the cursor, there is no mark, and every pair is empty, the held one too (M-101)"
-    (are_lengths (lengths_of (opening (bytes "ab"))) (lengths (sizes 0 2 0 0) (sizes 0 0 0 0) 0 0 0 Main 0 0 Unmarked)
-    ∷ are_lengths (opening_lengths 2) (lengths (sizes 0 2 0 0) (sizes 0 0 0 0) 0 0 0 Main 0 0 Unmarked)
+    (are_lengths (lengths_of (opening (bytes "ab"))) (lengths (sizes 0 2 0 0) (sizes 0 0 0 0) 0 0 0 Main 0 0 None)
+    ∷ are_lengths (opening_lengths 2) (lengths (sizes 0 2 0 0) (sizes 0 0 0 0) 0 0 0 Main 0 0 None)
     ∷ are_stores (stores_of 4 2 (opening (bytes "ab"))) (stores "__ab" "____" "____" "________")
     ∷ [])
     ∷ sentence "a quarter has 1,024 bytes (M-109)" (eqb quarter 1024 ∷ [])
@@ -115,7 +114,7 @@ layout_pins =
 -- The held pair and the mark are those of the full state.
 abbrev pub is_ok : Sizes → Sizes → ℕ → ℕ → ℕ → Mode → String → String → String → Bool
 is_ok main quoted xl xr pl mode text recall side =
-    editor_ok 4 (lengths main quoted xl xr pl mode 0 5 (At 1)) (stores text recall "qrstu_" side)
+    editor_ok 4 (lengths main quoted xl xr pl mode 0 5 (Some 1)) (stores text recall "qrstu_" side)
 
 -- The full state with another record, with another store, with another held pair, with another mark.
 abbrev pub with_sizes : Sizes → Sizes → ℕ → ℕ → ℕ → Bool
@@ -126,13 +125,13 @@ with_stores text recall side = is_ok (sizes 2 1 0 1) (sizes 1 2 2 0) 2 2 3 Quote
 
 abbrev pub with_held : ℕ → ℕ → String → Bool
 with_held hl hr held =
-    editor_ok 4 (lengths (sizes 2 1 0 1) (sizes 1 2 2 0) 2 2 3 Quoted hl hr (At 1)) (stores "ab___c" "d_____" held "e_fghi__jkl_mnop")
+    editor_ok 4 (lengths (sizes 2 1 0 1) (sizes 1 2 2 0) 2 2 3 Quoted hl hr (Some 1)) (stores "ab___c" "d_____" held "e_fghi__jkl_mnop")
 
-abbrev pub with_marking : Marking → Bool
+abbrev pub with_marking : Option ℕ → Bool
 with_marking mark = editor_ok 4 (lengths (sizes 2 1 0 1) (sizes 1 2 2 0) 2 2 3 Quoted 0 5 mark) full_stores
 
 -- An empty document with this mark.
-abbrev pub is_empty_with : Marking → Bool
+abbrev pub is_empty_with : Option ℕ → Bool
 is_empty_with mark =
     editor_ok 4 (lengths (sizes 0 0 0 0) (sizes 0 0 0 0) 0 0 0 Main 0 0 mark) (stores "______" "______" "______" "________________")
 
@@ -191,15 +190,15 @@ session_pins =
     ∷ not (with_held 1 1 "qr____")
     ∷ [])
     ∷ sentence "the mark is within the document, and both of the document's ends are; or there is none (M-101)"
-    (with_marking Unmarked
-    ∷ with_marking (At 0)
-    ∷ with_marking (At 2)
-    ∷ with_marking (At 3)
-    ∷ not (with_marking (At 4))
-    ∷ not (with_marking (At 6))
-    ∷ is_empty_with Unmarked
-    ∷ is_empty_with (At 0)
-    ∷ not (is_empty_with (At 1))
+    (with_marking None
+    ∷ with_marking (Some 0)
+    ∷ with_marking (Some 2)
+    ∷ with_marking (Some 3)
+    ∷ not (with_marking (Some 4))
+    ∷ not (with_marking (Some 6))
+    ∷ is_empty_with None
+    ∷ is_empty_with (Some 0)
+    ∷ not (is_empty_with (Some 1))
     ∷ [])
     ∷ sentence "in mode MAIN the quotation and its recall text are empty"
     (is_ok (sizes 2 1 0 1) (sizes 0 0 0 0) 2 2 3 Main "ab___c" "d_____" "________jkl_mnop"

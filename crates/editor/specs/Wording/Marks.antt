@@ -1,6 +1,6 @@
 -- How the promises of the functions about the mark speak: the record with another mark or held text, and what a key changes, in numbers.
-use Rattle.std.specs.Prelude.{◌≡◌, ◌≤◌, Bool, true, false, cond, ℕ, ◌+◌, ◌-◌, eqb}
-use Rattle.editor.specs.Words.{Direction, Left, Right, Mode, Main, Quoted, Marking, Move, Delete}
+use Rattle.std.specs.Prelude.{◌≡◌, ◌≤◌, Bool, true, false, cond, ℕ, ◌+◌, ◌-◌, eqb, Option}
+use Rattle.editor.specs.Words.{Direction, Left, Right, Mode, Main, Quoted, Move, Delete}
 use Rattle.editor.specs.Words.{Key, Insert, Function, Recall, Quote, Find, Replace, Mark, Cut, Paste, Newline, Tab}
 use Rattle.editor.specs.Words.{Sizes, Lengths, Report, Exchange}
 use Rattle.editor.specs.declared.SideReply.{SideReply}
@@ -9,7 +9,7 @@ use Rattle.editor.specs.Rules.Marks.{mark_through, mark_within}
 use Rattle.editor.specs.Rules.Bytes.{unedited}
 
 -- The lengths with another mark; and with the sizes that a key left of the document with the held pair in the place of its recall text.
-abbrev pub marked_at : Marking → Lengths → Lengths
+abbrev pub marked_at : Option ℕ → Lengths → Lengths
 marked_at mark n =
     record {
       main = n.main;
@@ -38,7 +38,7 @@ held_in m n =
     }
 
 -- The reply of such a key: refused, or done with a mark.
-abbrev pub held_reply : Lengths → Marking → SideReply → EditorReply
+abbrev pub held_reply : Lengths → Option ℕ → SideReply → EditorReply
 held_reply n mark t =
     cond (eqb t.code 0) (record { code = 0; report = t.report; lengths = held_in t.sizes (marked_at mark n) }) (unedited t.code n)
 
@@ -87,10 +87,10 @@ cuts Newline = false
 cuts Tab = false
 
 -- The mark through it, and a key's reply with that mark.
-abbrev pub mark_exchanged : Exchange → ℕ → Marking → Marking
+abbrev pub mark_exchanged : Exchange → ℕ → Option ℕ → Option ℕ
 mark_exchanged e l mark = mark_through (l - e.before) (e.before + e.behind) e.come mark
 
-abbrev pub mark_of : Key → Lengths → Report → Lengths → Marking
+abbrev pub mark_of : Key → Lengths → Report → Lengths → Option ℕ
 mark_of k n report m = mark_exchanged (exchange_of k n report m) n.main.l m.mark
 
 abbrev pub followed_reply : Key → Lengths → EditorReply → EditorReply
@@ -98,7 +98,7 @@ followed_reply k n r =
     record { code = 0; report = r.report; lengths = marked_at (mark_of k n r.report r.lengths) r.lengths }
 
 -- No sum wraps: nothing of it is longer than a store.
-pub record Moderate (e : Exchange) (l : ℕ) (mark : Marking) : Type 0 where
+pub record Moderate (e : Exchange) (l : ℕ) (mark : Option ℕ) : Type 0 where
   pub before : e.before ≤ l
   pub left : l ≤ 65536
   pub behind : e.behind ≤ 65536

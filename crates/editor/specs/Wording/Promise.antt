@@ -1,8 +1,7 @@
 -- How the promises of this layer's functions speak: what they ask of lent stores, and their outcome as one value.
-use Rattle.std.specs.Prelude.{◌≡◌, ◌≤◌, List, [], ◌∷◌, Bool, true, cond, ℕ, ◌+◌, ◌-◌, ◌*◌, eqb, leb, length, take}
-use Rattle.editor.specs.Words.{Direction, Left, Right, Search}
+use Rattle.std.specs.Prelude.{◌≡◌, ◌≤◌, List, [], ◌∷◌, Bool, true, cond, ℕ, ◌+◌, ◌-◌, ◌*◌, eqb, leb, length, take, Option, Some, None}
+use Rattle.editor.specs.Words.{Direction, Left, Right}
 use Rattle.editor.specs.Words.{Mode, Main, Quoted, Sizes, Lengths, Report}
-use Rattle.gap.specs.declared.Search.TheVariants as found
 use Rattle.gap.specs.Rules.Sequence.{patch, zeros}
 use Rattle.gap.specs.Rules.Checks.{Check, check, unless}
 use Rattle.gap.specs.Rules.Doc.{Doc, content}
@@ -27,8 +26,8 @@ room_of Left n = n.l
 room_of Right n = n.r
 
 -- A distance that was found is within the room.
-abbrev pub InRoom : Search → Direction → ℕ → ℕ → Type 0
-InRoom answer way l r = (d : ℕ) → answer ≡ found.Reached d → d ≤ room_of way (record { l = l; r = r; rl = 0; rr = 0 })
+abbrev pub InRoom : Option ℕ → Direction → ℕ → ℕ → Type 0
+InRoom answer way l r = (d : ℕ) → answer ≡ Some d → d ≤ room_of way (record { l = l; r = r; rl = 0; rr = 0 })
 
 abbrev pub moved_by : Direction → ℕ → Sizes → Sizes
 moved_by Left d n = record { l = n.l - d; r = n.r + d; rl = n.rl; rr = n.rr }
@@ -258,5 +257,5 @@ ReadableExchanged ok n text side =
     → ok ≡ readable longest_line (replaced (plain_of quarter n (stores text recall held side))).state
 
 -- The distance over all of a text of n bytes.
-abbrev pub whole_of : ℕ → Search
-whole_of n = cond (leb 1 n) (found.Reached n) found.Nowhere
+abbrev pub whole_of : ℕ → Option ℕ
+whole_of n = cond (leb 1 n) (Some n) None

@@ -1,4 +1,5 @@
 -- Laws of decimal numbers: the digits that a number is written with, and the number that digits write.
+use Rattle.std.proofs.Common.{Some, None}
 use mathlib.Core.Path.{◌≡◌, refl, sym, ap, ◌∙◌}
 use mathlib.Core.Logic.{◌⊎◌, inl, inr, ⊎_elim}
 use mathlib.Core.Bool.{Bool, true, false, ◌&&◌, ◌||◌, not, and-false}
@@ -11,7 +12,6 @@ use lib.Dec.{eqb, leb, ltb}
 use lib.ListN.{length, drop, get_or, length-append, drop_of_length-le}
 use lib.Seq.{drop-cons}
 use borrow.Author.Tests.{ltb-true, ltb-false, leb-true, lt-ltb, le-ltb, le-leb, lt-leb}
-use Rattle.gap.specs.declared.Number.TheVariants.{Read, Unreadable}
 use Rattle.gap.specs.Rules.Sequence.{every}
 use Rattle.gap.specs.Rules.Decimal.{digit, value_after, value, word_digits, is_number, number_of, digits_in, decimal}
 use Rattle.gap.proofs.Laws.Tests.{decided, and_left, and_right, and_both, cond-true, cond-false}
@@ -204,10 +204,10 @@ module _ (most : ℕ) (s : List ℕ) where
         front = and_right (sized && every digit s) _ yes-it-is;
       }
 
-  pub number_read : is_number most s ≡ true → Read (value s) ≡ number_of most s
+  pub number_read : is_number most s ≡ true → Some (value s) ≡ number_of most s
   unfolding number_of
   number_read yes-it-is = sym (cond-true _ _ yes-it-is)
 
-  pub number-unread : is_number most s ≡ false → Unreadable ≡ number_of most s
+  pub number-unread : is_number most s ≡ false → None ≡ number_of most s
   unfolding number_of
   number-unread no-it-is = sym (cond-false _ _ no-it-is)

@@ -1,4 +1,5 @@
 -- Laws of lines that begin with a word, and of the number behind it.
+use Rattle.std.proofs.Common.{Option, None}
 use mathlib.Core.Path.{◌≡◌, sym, ap, ◌∙◌}
 use mathlib.Core.Bool.{Bool, true, false, not, cond}
 use mathlib.Core.List.{List}
@@ -7,7 +8,6 @@ use lib.Dec.{ltb}
 use lib.ListN.{length, drop}
 use borrow.Author.Tests.{lt-ltb, le-ltb, not-true, not-false}
 use borrow.Rule.Slice.PartMut.{mid_of}
-use Rattle.gap.specs.Words.{Number, Unreadable}
 use Rattle.gap.specs.Rules.Sequence.{begins}
 use Rattle.gap.specs.Rules.Fields.{end_at, field_of, header_at}
 use Rattle.gap.proofs.Laws.Tests.{cond-true, cond-false}
@@ -31,11 +31,11 @@ module _ (word line : List ℕ) {yes : Bool} (known : yes ≡ begins word line) 
 
 -- A line without a newline, and one that has it.
 module _ (s : List ℕ) (at : ℕ) {end : ℕ} (ends : end ≡ end_at s at) (word : List ℕ) (most : ℕ) where
-  pub header-cut : length s ≤ end → Unreadable ≡ header_at word most s at
+  pub header-cut : length s ≤ end → None ≡ header_at word most s at
   unfolding header_at
   header-cut none = sym (cond-false _ _ (ap (λ e. ltb e (length s)) (sym ends) ∙ le-ltb _ _ none))
 
-  pub header_read : {n : Number} → end < length s → n ≡ field_of word most (mid_of at (end - at) s) → n ≡ header_at word most s at
+  pub header_read : {n : Option ℕ} → end < length s → n ≡ field_of word most (mid_of at (end - at) s) → n ≡ header_at word most s at
   unfolding header_at
   header_read more e =
       e ∙ ap (field_of word most) (line-lent s at ends)

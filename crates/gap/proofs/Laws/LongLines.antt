@@ -1,4 +1,5 @@
 -- Laws of the first longer line: there is none exactly where no line is longer, and how it is looked for line by line.
+use Rattle.std.proofs.Common.{Some, None}
 use mathlib.Core.Path.{◌≡◌, refl, sym, ap, ◌∙◌}
 use mathlib.Core.Logic.{⊎_elim}
 use mathlib.Core.Bool.{Bool, true, false, not, ◌&&◌, ◌||◌, cond, and-false}
@@ -10,7 +11,6 @@ use lib.Dec.{eqb, leb, ltb}
 use lib.ListN.{length, drop, get_or, drop_of_length-le}
 use lib.Seq.{get_or-take, get_or-drop}
 use borrow.Author.Tests.{ltb-true, ltb-false, lt-ltb, le-ltb, le-leb, eq-eqb, ne_eqb, eqb-true, not-true}
-use Rattle.gap.specs.declared.Search.TheVariants.{Reached, Nowhere}
 use Rattle.gap.specs.Rules.Sequence.{part}
 use Rattle.gap.specs.Rules.Nearest.{nearest}
 use Rattle.gap.specs.Rules.Lines.{newline}
@@ -41,14 +41,14 @@ other-fails a b e p = sym (ap (λ t. t && b) p) ∙ e
 module _ (limit : ℕ) where
   -- ---- There is none exactly where the lines fit
 
-  pub fit-nowhere : (s : List ℕ) → lines_fit limit s ≡ true → long_line limit s ≡ Nowhere
+  pub fit-nowhere : (s : List ℕ) → lines_fit limit s ≡ true → long_line limit s ≡ None
   unfolding long_line line_at
   fit-nowhere s fits =
       none-nowhere _ (length s) 0
       (λ j low high. not-both (begins_line s j) (le-ltb limit (length (line_of (drop j s))) (fit_line limit (drop j s) (fit-drop limit j s fits))))
 
   -- The same, as code has tested it.
-  pub lines-fitting : (s : List ℕ) {fits : Bool} → fits ≡ lines_fit_after limit 0 s → fits ≡ true → Nowhere ≡ long_line limit s
+  pub lines-fitting : (s : List ℕ) {fits : Bool} → fits ≡ lines_fit_after limit 0 s → fits ≡ true → None ≡ long_line limit s
   lines-fitting s tested passes = sym (fit-nowhere s (sym (after_nothing limit s) ∙ sym tested ∙ passes))
 
   each-with : (is : Bool) (n b : ℕ) (line : List ℕ) (whole : ℕ → Bool) → n + length (cond is [] (b ∷ line)) ≤ limit
@@ -70,7 +70,7 @@ module _ (limit : ℕ) where
       (λ m fits. each_fits m s fits (λ j inside at. each (suc j) (omega arith) at))
 
   -- Where no place is found, the line that begins at a place is within the limit; at the end there is none.
-  module _ (s : List ℕ) (nowhere : long_line limit s ≡ Nowhere) where
+  module _ (s : List ℕ) (nowhere : long_line limit s ≡ None) where
     line-at-fits : (at : ℕ) → begins_line s at ≡ true → length (line_of (drop at s)) ≤ limit
     unfolding long_line line_at line_of
     line-at-fits at begins = ⊎_elim within outside (decided (ltb at (length s)))
@@ -104,7 +104,7 @@ module _ (limit : ℕ) where
     lines_start = record { scan = scan-start _ _ _; begins = refl }
 
     module _ {i : ℕ} (so_far : LinesPassed s i) where
-      pub lines_none : length s ≤ i → Nowhere ≡ long_line limit s
+      pub lines_none : length s ≤ i → None ≡ long_line limit s
       unfolding long_line
       lines_none end = scan-none _ _ _ i so_far.scan (omega arith)
 
@@ -114,7 +114,7 @@ module _ (limit : ℕ) where
         unfolding end_at
         size = omega arith
 
-        pub lines-found : limit < end - i → Reached i ≡ long_line limit s
+        pub lines-found : limit < end - i → Some i ≡ long_line limit s
         unfolding long_line
         lines-found long =
             scan-found _ _ _ i so_far.scan (omega arith) (and_both so_far.begins (lt-ltb limit (length (line_at s i)) (omega (arith, size))))
@@ -145,7 +145,7 @@ module _ (limit : ℕ) where
               let row = end + 1 - i in
               let place : i + row ≡ end + 1 = omega (arith, line-starts s i ends) in
               let before : end + 1 - 1 ≡ end = omega arith in
-              let none : nearest (longer_at limit s) row i ≡ Nowhere = none-nowhere _ row i (λ j low high. none-longer j low (omega arith)) in
+              let none : nearest (longer_at limit s) row i ≡ None = none-nowhere _ row i (λ j low high. none-longer j low (omega arith)) in
               let passed : Scan (longer_at limit s) (length s) 0 (i + row) = row-none so_far.scan row (omega (arith, place)) refl none in
               record {
                 scan = rw (← place) passed;
@@ -153,7 +153,7 @@ module _ (limit : ℕ) where
                     or_right (eqb (end + 1) 0) (eq-eqb (get_or s (end + 1 - 1) 0) newline (ap (λ k. get_or s k 0) before ∙ ends-stop s i ends more));
               }
 
-          pub lines-last : length s ≤ end → Nowhere ≡ long_line limit s
+          pub lines-last : length s ≤ end → None ≡ long_line limit s
           unfolding long_line
           lines-last over =
               row_last so_far.scan (length s - i) (omega arith)

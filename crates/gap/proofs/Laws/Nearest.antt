@@ -1,11 +1,11 @@
 -- Laws of the nearest number: what `nearest` answers is the least that passes, and it answers Nowhere exactly when none does.
+use Rattle.std.proofs.Common.{Some, None}
 use mathlib.Core.Path.{◌≡◌, refl, sym, ap, ap₂, ◌∙◌}
 use mathlib.Core.Logic.{⊎_elim}
 use mathlib.Core.Bool.{Bool, true, false, cond}
 use Prim.Native.Nat.{ℕ, zero, suc, ◌+◌, ◌≤◌, ◌<◌}
 use native.Mathlib.Nat.{le_refl, eq-or-lt_of_le}
 use native.Mathlib.Omega.{arith}
-use Rattle.gap.specs.declared.Search.TheVariants.{Reached, Nowhere}
 use Rattle.gap.specs.Rules.Nearest.{nearest}
 use Rattle.gap.proofs.Laws.Tests.{decided, cond-true, cond-false}
 
@@ -18,7 +18,7 @@ pub record Least (test : ℕ → Bool) (n k d : ℕ) : Type 0 where
 
 -- Where the first number passes, the answer is that number; else it is the answer from the next number on.
 module _ (test : ℕ → Bool) (n k : ℕ) where
-  here : test k ≡ true → nearest test (suc n) k ≡ Reached k
+  here : test k ≡ true → nearest test (suc n) k ≡ Some k
   unfolding nearest
   here e = cond-true _ _ e
 
@@ -30,7 +30,7 @@ module _ (test : ℕ → Bool) (n k : ℕ) where
 fails-from : (test : ℕ → Bool) (k j : ℕ) → test k ≡ false → (k < j → test j ≡ false) → k ≤ j → test j ≡ false
 fails-from test k j at-k above low = ⊎_elim (λ e. ap test (sym e) ∙ at-k) above (eq-or-lt_of_le low)
 
-pub reached-least : (test : ℕ → Bool) (n k d : ℕ) → nearest test n k ≡ Reached d → Least test n k d
+pub reached-least : (test : ℕ → Bool) (n k d : ℕ) → nearest test n k ≡ Some d → Least test n k d
 unfolding nearest
 reached-least test zero k d e = let clash : ◌≡◌ {A = ℕ} 0 1 = cc in absurd (omega arith)
 reached-least test (suc n) k d e =
@@ -49,10 +49,10 @@ reached-least test (suc n) k d e =
       before = λ j low high. fails-from test k j f (λ above. least.before j above high) low;
     }
 
-pub least-reached : (test : ℕ → Bool) (n k d : ℕ) → Least test n k d → nearest test n k ≡ Reached d
+pub least-reached : (test : ℕ → Bool) (n k d : ℕ) → Least test n k d → nearest test n k ≡ Some d
 least-reached test zero k d least = absurd (omega arith)
 least-reached test (suc n) k d least =
-    ⊎_elim (λ e. here test n k (ap test e ∙ least.passes) ∙ ap Reached e)
+    ⊎_elim (λ e. here test n k (ap test e ∙ least.passes) ∙ ap Some e)
     (λ above. further test n k (least.before k (le_refl k) above) ∙ least-reached test n (suc k) d (next above))
     (eq-or-lt_of_le least.from)
   where
@@ -60,14 +60,14 @@ least-reached test (suc n) k d least =
     next above =
         record { from = above; within = omega arith; passes = least.passes; before = λ j low high. least.before j (omega arith) high }
 
-pub nowhere-none : (test : ℕ → Bool) (n k : ℕ) → nearest test n k ≡ Nowhere → (j : ℕ) → k ≤ j → j < k + n → test j ≡ false
+pub nowhere-none : (test : ℕ → Bool) (n k : ℕ) → nearest test n k ≡ None → (j : ℕ) → k ≤ j → j < k + n → test j ≡ false
 nowhere-none test zero k e j low high = absurd (omega arith)
 nowhere-none test (suc n) k e j low high =
     ⊎_elim (λ t. let clash : ◌≡◌ {A = ℕ} 0 1 = cc (here test n k t) in absurd (omega arith))
     (λ f. fails-from test k j f (λ above. nowhere-none test n (suc k) (sym (further test n k f) ∙ e) j above (omega arith)) low)
     (decided (test k))
 
-pub none-nowhere : (test : ℕ → Bool) (n k : ℕ) → ((j : ℕ) → k ≤ j → j < k + n → test j ≡ false) → nearest test n k ≡ Nowhere
+pub none-nowhere : (test : ℕ → Bool) (n k : ℕ) → ((j : ℕ) → k ≤ j → j < k + n → test j ≡ false) → nearest test n k ≡ None
 unfolding nearest
 none-nowhere test zero k none = refl
 none-nowhere test (suc n) k none =
@@ -79,5 +79,5 @@ pub nearest-same : {f g : ℕ → Bool} (n k : ℕ) → ((j : ℕ) → k ≤ j �
 unfolding nearest
 nearest-same zero k same = refl
 nearest-same (suc n) k same =
-    ap₂ (λ passes further. cond passes (Reached k) further) (same k (omega arith) (omega arith))
+    ap₂ (λ passes further. cond passes (Some k) further) (same k (omega arith) (omega arith))
     (nearest-same n (suc k) (λ j low high. same j (omega arith) (omega arith)))

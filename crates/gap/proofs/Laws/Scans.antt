@@ -1,4 +1,5 @@
 -- Laws of loops that go through a text byte by byte, or through numbers one by one: what is left decides.
+use Rattle.std.proofs.Common.{Some, None}
 use mathlib.Core.Path.{◌≡◌, refl, sym, ap, ◌∙◌}
 use mathlib.Core.Bool.{Bool, true, false, not, ◌&&◌, cond, and-true, and_assoc}
 use mathlib.Core.List.{List}
@@ -7,7 +8,6 @@ use native.Mathlib.Numerals.{add-one}
 use native.Mathlib.Omega.{arith}
 use lib.ListN.{length, drop, get_or, drop_of_length-le}
 use lib.Seq.{drop-cons}
-use Rattle.gap.specs.declared.Search.TheVariants.{Reached, Nowhere}
 use Rattle.gap.specs.Rules.Sequence.{every}
 use Rattle.gap.specs.Rules.Nearest.{nearest}
 use Rattle.gap.proofs.Laws.Tests.{cond-true, cond-false}
@@ -39,7 +39,7 @@ pub record Scan (test : ℕ → Bool) (n k d : ℕ) : Type 0 where
   pub rest : nearest test n k ≡ nearest test (k + n - d) d
 
 -- The first number decides, or those after it do.
-first : (test : ℕ → Bool) (n k : ℕ) → 0 < n → nearest test n k ≡ cond (test k) (Reached k) (nearest test (n - 1) (k + 1))
+first : (test : ℕ → Bool) (n k : ℕ) → 0 < n → nearest test n k ≡ cond (test k) (Some k) (nearest test (n - 1) (k + 1))
 unfolding nearest
 first test zero k h = absurd (omega arith)
 first test (suc n) k h = let one_less : suc n - 1 ≡ n = omega arith in rw (one_less, add-one)
@@ -49,7 +49,7 @@ module _ (test : ℕ → Bool) (n k : ℕ) where
   scan-start = let all : n ≡ k + n - k = omega arith in record { within = omega arith; rest = ap (λ m. nearest test m k) all }
 
   module _ (d : ℕ) (so_far : Scan test n k d) where
-    pub scan-found : d < k + n → test d ≡ true → Reached d ≡ nearest test n k
+    pub scan-found : d < k + n → test d ≡ true → Some d ≡ nearest test n k
     scan-found more e = sym (so_far.rest ∙ first test _ d (omega arith) ∙ cond-true _ _ e)
 
     pub scan-more : d < k + n → test d ≡ false → Scan test n k (d + 1)
@@ -59,7 +59,7 @@ module _ (test : ℕ → Bool) (n k : ℕ) where
           rest = so_far.rest ∙ first test _ d (omega arith) ∙ cond-false _ _ e ∙ ap (λ m. nearest test m (d + 1)) one_less;
         }
 
-    pub scan-none : k + n ≤ d → Nowhere ≡ nearest test n k
+    pub scan-none : k + n ≤ d → None ≡ nearest test n k
     unfolding nearest
     scan-none end = let none : k + n - d ≡ 0 = omega arith in sym (so_far.rest ∙ ap (λ m. nearest test m d) none)
 
@@ -73,16 +73,16 @@ module _ (test : ℕ → Bool) (s : List ℕ) where
 
   module _ (i : ℕ) (so_far : PassedUpTo test s i) where
     module _ (more : i < length s) {ok : Bool} (e : ok ≡ test (get_or s i 0)) where
-      pub passed-found : not ok ≡ true → Reached i ≡ nearest (λ j. not (test (get_or s j 0))) (length s) 0
+      pub passed-found : not ok ≡ true → Some i ≡ nearest (λ j. not (test (get_or s j 0))) (length s) 0
       passed-found fails = scan-found _ _ _ i so_far.scan (omega arith) (ap not (sym e) ∙ fails)
 
       pub passed-more : not ok ≡ false → PassedUpTo test s (i + 1)
       passed-more passes = record { scan = scan-more _ _ _ i so_far.scan (omega arith) (ap not (sym e) ∙ passes) }
 
-    pub passed-all : length s ≤ i → Nowhere ≡ nearest (λ j. not (test (get_or s j 0))) (length s) 0
+    pub passed-all : length s ≤ i → None ≡ nearest (λ j. not (test (get_or s j 0))) (length s) 0
     passed-all end = scan-none _ _ _ i so_far.scan (omega arith)
 
   -- Where every byte passes, none is the first that does not.
-  pub every-nowhere : {all : Bool} → all ≡ every test s → all ≡ true → Nowhere ≡ nearest (λ i. not (test (get_or s i 0))) (length s) 0
+  pub every-nowhere : {all : Bool} → all ≡ every test s → all ≡ true → None ≡ nearest (λ i. not (test (get_or s i 0))) (length s) 0
   every-nowhere tested e =
       sym (none-nowhere _ (length s) 0 (λ j low high. ap not (every-at test s j (sym tested ∙ e) (omega arith))))

@@ -1,5 +1,6 @@
 -- Whatever limit is set to their digits, the numbers below that power of ten and the bytes that are read as numbers correspond one to
 -- one: what is written is read back, and what is read is written back.
+use Rattle.std.proofs.Common.{Some, None}
 use mathlib.Core.Path.{◌≡◌, refl, sym, ap, ◌∙◌}
 use mathlib.Core.Logic.{⊎_elim}
 use mathlib.Core.Bool.{true, ◌||◌, not}
@@ -11,7 +12,6 @@ use lib.Dec.{eqb}
 use lib.ListN.{length, get_or, get_or-append}
 use lib.Seq.{append_snoc}
 use borrow.Author.Tests.{eqb-true, eqb-false, eq-eqb, ne_eqb, not-true}
-use Rattle.gap.specs.declared.Number.TheVariants.{Read, Unreadable}
 use Rattle.gap.specs.Rules.Sequence.{every}
 use Rattle.gap.specs.Rules.Decimal.{digit, value_after, value, is_number, number_of, decimal}
 use Rattle.gap.proofs.Laws.Tests.{decided, and_left, and_right, and_both, or_cases, or_left, or_right}
@@ -33,13 +33,13 @@ no_zero n =
     (λ some. or_right (eqb (length (decimal n)) 1) (ap not (ne_eqb (get_or (decimal n) 0 0) 48 (λ e. omega (arith, first-digit n some)))))
     (eq-zero-or-pos n)
 
-pub written_read : (most n : ℕ) → 1 ≤ most → n < 10 ^ most → number_of most (decimal n) ≡ Read n
+pub written_read : (most n : ℕ) → 1 ≤ most → n < 10 ^ most → number_of most (decimal n) ≡ Some n
 written_read zero n one small = absurd (not-suc-le-zero one)
 written_read (suc most) n one small =
     let some : 1 ≤ length (decimal n) = decimal-some n in
     let few : length (decimal n) ≤ suc most = decimal-within n most small in
     let is = sym (number-tests (suc most) (decimal n) some few refl) ∙ and_both (decimal-digits n) (no_zero n) in
-    sym (number_read (suc most) (decimal n) is) ∙ ap Read (value-decimal n)
+    sym (number_read (suc most) (decimal n) is) ∙ ap Some (value-decimal n)
 
 -- Digits behind a number, which is not 0, are written behind its digits.
 digits-behind : (n : ℕ) (s : List ℕ) → 0 < n → every digit s ≡ true → decimal (value_after n s) ≡ decimal n ++ s
@@ -78,13 +78,13 @@ numeral-written most (b ∷ (c ∷ s)) is =
     digits-behind (0 * 10 + (b - 48)) (c ∷ s) (omega (arith, front-digit most b c s is first)) (and_right (digit b) _ is.digits)
     ∙ ap (λ t. t ++ (c ∷ s)) (digit-written b first)
 
-module _ (most : ℕ) (s : List ℕ) (n : ℕ) (e : number_of most s ≡ Read n) where
+module _ (most : ℕ) (s : List ℕ) (n : ℕ) (e : number_of most s ≡ Some n) where
   read-value : Numeral most s × (value s ≡ n)
   read-value =
       ⊎_elim
-      (λ yes-it-is. let same : Read (value s) ≡ Read n = number_read most s yes-it-is ∙ e in (number_is most s yes-it-is, cc))
+      (λ yes-it-is. let same : Some (value s) ≡ Some n = number_read most s yes-it-is ∙ e in (number_is most s yes-it-is, cc))
       (λ no-it-is.
-      let other : Unreadable ≡ Read n = number-unread most s no-it-is ∙ e in
+      let other : None ≡ Some n = number-unread most s no-it-is ∙ e in
       let never : ◌≡◌ {A = ℕ} 0 1 = cc in
       absurd (omega arith))
       (decided (is_number most s))

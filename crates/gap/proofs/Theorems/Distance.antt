@@ -1,18 +1,18 @@
 -- The distance (01, plain editor): it is above 0, that many moves reach the place, no smaller number does; and it is Nowhere
 -- exactly when no number of moves does.
+use Rattle.std.proofs.Common.{Some, None}
 use mathlib.Core.Path.{◌≡◌}
 use mathlib.Core.Logic.{◌↔◌}
 use mathlib.Core.Bool.{Bool, false}
 use Prim.Native.Nat.{ℕ, ◌≤◌, ◌<◌}
 use native.Mathlib.Omega.{arith}
 use Rattle.gap.specs.declared.Direction.{Direction}
-use Rattle.gap.specs.declared.Search.TheVariants.{Reached, Nowhere}
 use Rattle.gap.specs.Rules.Doc.{Doc, move, times, room}
 use Rattle.gap.specs.Rules.Nearest.{distance, LeastMoves}
 use Rattle.gap.proofs.Laws.Nearest.{Least, reached-least, least-reached, nowhere-none, none-nowhere}
 
 pub distance_least : (way : Direction) (place : Doc → Bool) (d : Doc) (n : ℕ)
-    → (distance way place d ≡ Reached n) ↔ LeastMoves way place d n
+    → (distance way place d ≡ Some n) ↔ LeastMoves way place d n
 unfolding distance
 distance_least way place d n = (λ e. moves (reached-least _ _ 1 n e), λ least. least-reached _ _ 1 n (number least))
   where
@@ -23,7 +23,7 @@ distance_least way place d n = (λ e. moves (reached-least _ _ 1 n e), λ least.
     number least = record { from = least.above; within = omega arith; passes = least.reaches; before = least.smaller }
 
 pub distance-nowhere : (way : Direction) (place : Doc → Bool) (d : Doc)
-    → (distance way place d ≡ Nowhere) ↔ ((n : ℕ) → 0 < n → n ≤ room way d → place (times (move way) n d) ≡ false)
+    → (distance way place d ≡ None) ↔ ((n : ℕ) → 0 < n → n ≤ room way d → place (times (move way) n d) ≡ false)
 unfolding distance
 distance-nowhere way place d = (
   λ e n above within. nowhere-none _ _ 1 e n above (omega arith),

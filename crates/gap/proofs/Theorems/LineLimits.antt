@@ -1,4 +1,5 @@
 -- A text fits a limit exactly when each of its lines does; and the first longer line is found exactly where it begins. (02, M-106.)
+use Rattle.std.proofs.Common.{Option, Some, None}
 use mathlib.Core.Path.{◌≡◌, refl, sym, ap, ◌∙◌}
 use mathlib.Core.Logic.{◌↔◌, ⊎_elim}
 use mathlib.Core.Bool.{true, false, ◌&&◌}
@@ -8,8 +9,6 @@ use native.Mathlib.Omega.{arith}
 use lib.Dec.{leb, ltb}
 use lib.ListN.{length, get_or}
 use borrow.Author.Tests.{leb-true, le-leb, ltb-true, ltb-false, lt-ltb, le-ltb}
-use Rattle.gap.specs.declared.Search.{Search}
-use Rattle.gap.specs.declared.Search.TheVariants.{Reached, Nowhere}
 use Rattle.gap.specs.Rules.Nearest.{nearest}
 use Rattle.gap.specs.Rules.Lines.{lines}
 use Rattle.gap.specs.Rules.Fields.{line_at}
@@ -55,11 +54,11 @@ module _ (limit : ℕ) where
       (decided (begins_line s j))
 
   module _ (s : List ℕ) where
-    pub long-line-first : (at : ℕ) → (long_line limit s ≡ Reached at) ↔ FirstLonger s at
+    pub long-line-first : (at : ℕ) → (long_line limit s ≡ Some at) ↔ FirstLonger s at
     unfolding long_line
     long-line-first at = (found, finds)
       where
-        found : nearest (longer_at limit s) (length s) 0 ≡ Reached at → FirstLonger s at
+        found : nearest (longer_at limit s) (length s) 0 ≡ Some at → FirstLonger s at
         found e =
             let least = reached-least (longer_at limit s) (length s) 0 at e in
             record {
@@ -69,7 +68,7 @@ module _ (limit : ℕ) where
               before = λ j low. other-short s j (least.before j (omega arith) low);
             }
 
-        finds : FirstLonger s at → nearest (longer_at limit s) (length s) 0 ≡ Reached at
+        finds : FirstLonger s at → nearest (longer_at limit s) (length s) 0 ≡ Some at
         finds first =
             least-reached (longer_at limit s) (length s) 0 at
             (record {
@@ -80,17 +79,17 @@ module _ (limit : ℕ) where
             })
 
     -- There is none exactly where no line is longer.
-    pub long-line-nowhere : (long_line limit s ≡ Nowhere) ↔ (lines_fit limit s ≡ true)
+    pub long-line-nowhere : (long_line limit s ≡ None) ↔ (lines_fit limit s ≡ true)
     long-line-nowhere = (nowhere-fit limit s, fit-nowhere limit s)
 
     -- There is one exactly where a line is longer.
     pub record LongLine : Type 0 where
       pub at : ℕ
-      pub reached : long_line limit s ≡ Reached at
+      pub reached : long_line limit s ≡ Some at
 
-    reach : (found : Search) → long_line limit s ≡ found → lines_fit limit s ≡ false → LongLine
-    reach (Reached at) e long = record { at = at; reached = e }
-    reach Nowhere e long = clash (nowhere-fit limit s e) long
+    reach : (found : Option ℕ) → long_line limit s ≡ found → lines_fit limit s ≡ false → LongLine
+    reach (Some at) e long = record { at = at; reached = e }
+    reach None e long = clash (nowhere-fit limit s e) long
 
     fails : LongLine → lines_fit limit s ≡ false
     fails found =

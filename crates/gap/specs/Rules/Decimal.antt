@@ -1,6 +1,5 @@
 -- Decimal numbers as they are read and as they are written. (01, the bench program: numbers; 02, M-100: numbers.)
-use Rattle.std.specs.Prelude.{List, [], ◌∷◌, ◌++◌, Bool, not, ◌&&◌, ◌||◌, cond, ℕ, zero, suc, ◌+◌, ◌-◌, ◌*◌, ◌/◌, ◌%◌, eqb, leb, ltb, length, get_or}
-use Rattle.gap.specs.Words.{Number, Read, Unreadable}
+use Rattle.std.specs.Prelude.{List, [], ◌∷◌, ◌++◌, Bool, not, ◌&&◌, ◌||◌, cond, ℕ, zero, suc, ◌+◌, ◌-◌, ◌*◌, ◌/◌, ◌%◌, eqb, leb, ltb, length, get_or, Option, Some, None}
 use Rattle.gap.specs.Rules.Sequence.{every}
 
 -- `0` to `9`, and what each is worth.
@@ -23,8 +22,8 @@ unfoldable pub is_number : ℕ → List ℕ → Bool
 is_number most s =
     ((leb 1 (length s) && leb (length s) most) && every digit s) && (eqb (length s) 1 || not (eqb (get_or s 0 0) 48))
 
-unfoldable pub number_of : ℕ → List ℕ → Number
-number_of most s = cond (is_number most s) (Read (value s)) Unreadable
+unfoldable pub number_of : ℕ → List ℕ → Option ℕ
+number_of most s = cond (is_number most s) (Some (value s)) None
 
 -- Whatever so many digits write fits a machine word.
 abbrev pub word_digits : ℕ

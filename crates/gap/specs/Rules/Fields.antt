@@ -1,6 +1,5 @@
 -- Lines by their places, and lines that have a word and a number. (01, the bench program.)
-use Rattle.std.specs.Prelude.{List, [], ◌∷◌, ◌++◌, Bool, cond, ℕ, suc, ◌+◌, eqb, ltb, length, take, drop}
-use Rattle.gap.specs.Words.{Number, Unreadable}
+use Rattle.std.specs.Prelude.{List, [], ◌∷◌, ◌++◌, Bool, cond, ℕ, suc, ◌+◌, eqb, ltb, length, take, drop, Option, None}
 use Rattle.gap.specs.Rules.Sequence.{begins}
 use Rattle.gap.specs.Rules.Lines.{newline, newlines}
 use Rattle.gap.specs.Rules.Decimal.{number_of, decimal}
@@ -33,12 +32,12 @@ line_number s at = suc (newlines (take at s))
 -- ---- Fields
 
 -- A word and the number behind it, of at most so many digits.
-unfoldable pub field_of : List ℕ → ℕ → List ℕ → Number
-field_of word most line = cond (begins word line) (number_of most (drop (length word) line)) Unreadable
+unfoldable pub field_of : List ℕ → ℕ → List ℕ → Option ℕ
+field_of word most line = cond (begins word line) (number_of most (drop (length word) line)) None
 
 -- The same of the line that starts at a place, if it ends in a newline.
-unfoldable pub header_at : List ℕ → ℕ → List ℕ → ℕ → Number
-header_at word most s at = cond (ended s at) (field_of word most (line_at s at)) Unreadable
+unfoldable pub header_at : List ℕ → ℕ → List ℕ → ℕ → Option ℕ
+header_at word most s at = cond (ended s at) (field_of word most (line_at s at)) None
 
 -- Such a line as it is written: a word, a number, a newline.
 unfoldable pub entry : List ℕ → ℕ → List ℕ

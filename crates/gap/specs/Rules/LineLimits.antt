@@ -1,6 +1,5 @@
 -- Lines against a limit of bytes. (02, M-106.)
-use Rattle.std.specs.Prelude.{List, [], ◌∷◌, Bool, true, ◌&&◌, ◌||◌, ℕ, ◌-◌, eqb, leb, ltb, length, get_or}
-use Rattle.gap.specs.Words.{Search}
+use Rattle.std.specs.Prelude.{List, [], ◌∷◌, Bool, true, ◌&&◌, ◌||◌, ℕ, ◌-◌, eqb, leb, ltb, length, get_or, Option}
 use Rattle.gap.specs.Rules.Nearest.{nearest}
 use Rattle.gap.specs.Rules.Lines.{newline, lines}
 use Rattle.gap.specs.Rules.Fields.{line_at}
@@ -18,5 +17,5 @@ abbrev pub begins_line : List ℕ → ℕ → Bool
 begins_line s at = eqb at 0 || eqb (get_or s (at - 1) 0) newline
 
 -- The first place at which a longer line begins. (02, M-106: place the first byte of the first such line.)
-unfoldable pub long_line : ℕ → List ℕ → Search
+unfoldable pub long_line : ℕ → List ℕ → Option ℕ
 long_line limit s = nearest (λ at. begins_line s at && ltb limit (length (line_at s at))) (length s) 0

@@ -1,7 +1,6 @@
 -- How the tables write documents and stores, and how they compare what a definition gives.
-use Rattle.std.specs.Prelude.{List, [], ◌∷◌, ◌++◌, Bool, true, false, ◌&&◌, cond, ℕ, eqb}
+use Rattle.std.specs.Prelude.{List, [], ◌∷◌, ◌++◌, Bool, true, false, ◌&&◌, cond, ℕ, eqb, Option, Some, None}
 use Prim.Native.String.{String}
-use Rattle.gap.specs.Words.{Search, Reached, Nowhere, Number, Read, Unreadable}
 use Rattle.gap.specs.Rules.Sequence.{same_bytes}
 use Rattle.gap.specs.Rules.Strings.{bytes}
 use Rattle.gap.specs.Rules.Doc.{Doc}
@@ -39,18 +38,18 @@ same_bool true b = b
 same_bool false true = false
 same_bool false false = true
 
-abbrev pub is_reached : Search → ℕ → Bool
-is_reached (Reached n) m = eqb n m
-is_reached Nowhere m = false
+abbrev pub is_reached : Option ℕ → ℕ → Bool
+is_reached (Some n) m = eqb n m
+is_reached None m = false
 
-abbrev pub is_nowhere : Search → Bool
-is_nowhere (Reached n) = false
-is_nowhere Nowhere = true
+abbrev pub is_nowhere : Option ℕ → Bool
+is_nowhere (Some n) = false
+is_nowhere None = true
 
-abbrev pub is_read : Number → ℕ → Bool
-is_read (Read n) m = eqb n m
-is_read Unreadable m = false
+abbrev pub is_read : Option ℕ → ℕ → Bool
+is_read (Some n) m = eqb n m
+is_read None m = false
 
-abbrev pub is_unreadable : Number → Bool
-is_unreadable (Read n) = false
-is_unreadable Unreadable = true
+abbrev pub is_unreadable : Option ℕ → Bool
+is_unreadable (Some n) = false
+is_unreadable None = true

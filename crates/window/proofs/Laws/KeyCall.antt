@@ -1,4 +1,5 @@
 -- The key call: what its tests tell, what a refusal leaves, and that the editor's outcome shown through the window is `keyed`.
+use Rattle.std.proofs.Common.{Option, Some, None}
 use mathlib.Core.Path.{◌≡◌, refl, sym, ap, ap₂, subst, transport, ◌∙◌}
 use mathlib.Core.Logic.{⊎_elim}
 use mathlib.Core.Bool.{Bool, true, false, ◌&&◌, cond}
@@ -25,8 +26,6 @@ use Rattle.editor.specs.Wording.Promise.{Sound, stores}
 use Rattle.editor.specs.Wording.Marks.{cuts}
 use Rattle.editor.proofs.Laws.Fitting.{fitting}
 use Rattle.window.specs.Words.{Lengths, Frame, Session, Key, Mode, Main, Quoted, Report}
-use Rattle.window.specs.declared.SessionTest.{SessionTest}
-use Rattle.window.specs.declared.SessionTest.TheVariants.{Passed, Failed}
 use Rattle.window.specs.declared.Spot.{Spot}
 use Rattle.window.specs.declared.Rows.{Rows}
 use Rattle.window.specs.declared.Reply.{Reply}
@@ -72,33 +71,33 @@ session-so Q s b ok spot here seen e =
 
 -- What the session test finds, by these tests; and what it tells.
 module _ (Q : ℕ) (s : Session) (b : Stores) where
-  pub test-failed : session_in Q s b ≡ false → Failed ≡ session_test Q s b
+  pub test-failed : session_in Q s b ≡ false → None ≡ session_test Q s b
   test-failed e = sym (cond-false _ _ e)
 
-  pub test-passed : session_in Q s b ≡ true → {above : ℕ} → above ≡ newlines_left s.lengths.main.l b.text → Passed above ≡ session_test Q s b
-  test-passed e counted = ap Passed counted ∙ sym (cond-true _ _ e)
+  pub test-passed : session_in Q s b ≡ true → {above : ℕ} → above ≡ newlines_left s.lengths.main.l b.text → Some above ≡ session_test Q s b
+  test-passed e counted = ap Some counted ∙ sym (cond-true _ _ e)
 
-passed-so : (test : Bool) {x y : ℕ} → cond test (Passed x) Failed ≡ Passed y → (test ≡ true) × (x ≡ y)
+passed-so : (test : Bool) {x y : ℕ} → cond test (Some x) None ≡ Some y → (test ≡ true) × (x ≡ y)
 passed-so true e = (refl, cc)
 passed-so false e = (cc, cc)
 
-failed-so : (test : Bool) (x : ℕ) → cond test (Passed x) Failed ≡ Failed → test ≡ false
+failed-so : (test : Bool) (x : ℕ) → cond test (Some x) None ≡ None → test ≡ false
 failed-so true x e = cc
 failed-so false x e = refl
 
-module _ (Q : ℕ) (s : Session) (b : Stores) {t : SessionTest} (e : t ≡ session_test Q s b) where
-  pub tested-so : {above : ℕ} → t ≡ Passed above → (session_in Q s b ≡ true) × (newlines_left s.lengths.main.l b.text ≡ above)
+module _ (Q : ℕ) (s : Session) (b : Stores) {t : Option ℕ} (e : t ≡ session_test Q s b) where
+  pub tested-so : {above : ℕ} → t ≡ Some above → (session_in Q s b ≡ true) × (newlines_left s.lengths.main.l b.text ≡ above)
   tested-so told = passed-so (session_in Q s b) (sym e ∙ told)
 
-  pub tested-not : t ≡ Failed → session_in Q s b ≡ false
+  pub tested-not : t ≡ None → session_in Q s b ≡ false
   tested-not told = failed-so (session_in Q s b) _ (sym e ∙ told)
 
-module _ (s : Session) (b : Stores) {t : SessionTest} (e : t ≡ session_test quarter s b) where
-  pub tested-session : {above : ℕ} → t ≡ Passed above → (is_session s b ≡ true) × (newlines_left s.lengths.main.l b.text ≡ above)
+module _ (s : Session) (b : Stores) {t : Option ℕ} (e : t ≡ session_test quarter s b) where
+  pub tested-session : {above : ℕ} → t ≡ Some above → (is_session s b ≡ true) × (newlines_left s.lengths.main.l b.text ≡ above)
   unfolding is_session
   tested-session told = tested-so quarter s b e told
 
-  pub tested-none : t ≡ Failed → is_session s b ≡ false
+  pub tested-none : t ≡ None → is_session s b ≡ false
   unfolding is_session
   tested-none told = tested-not quarter s b e told
 

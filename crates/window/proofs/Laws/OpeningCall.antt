@@ -1,4 +1,5 @@
 -- The opening call: what its tests refuse, and what a text that passes them becomes in the five stores.
+use Rattle.std.proofs.Common.{Option, Some, None}
 use mathlib.Core.Path.{◌≡◌, sym, ap, ◌∙◌}
 use mathlib.Core.Bool.{Bool, true, false, not, ◌&&◌}
 use mathlib.Core.List.{List, []}
@@ -8,8 +9,6 @@ use lib.Dec.{leb}
 use lib.ListN.{length, take, get_or}
 use lib.Seq.{length-take-le, get_or-take}
 use borrow.Author.Tests.{leb-true, le-leb, lt-leb, not-true, not-false}
-use Rattle.gap.specs.declared.Search.{Search}
-use Rattle.gap.specs.declared.Search.TheVariants.{Reached, Nowhere}
 use Rattle.gap.specs.Rules.Doc.{Doc}
 use Rattle.gap.specs.Rules.Nearest.{nearest}
 use Rattle.gap.specs.Rules.Lines.{newlines, since_after}
@@ -140,7 +139,7 @@ module _ (n H W : ℕ) (b : Lent) {ok : Bool} (known : ok ≡ tabled H W b) wher
     unfolding opened
     long-refused over e = ap (λ q. called q b) e ∙ sym (cond-true _ _ (stores-fit H W b known passed) ∙ cond-false _ _ (lt-leb n _ over))
 
-    module _ {found : Search} (fits : n ≤ T b.stores)
+    module _ {found : Option ℕ} (fits : n ≤ T b.stores)
         (search : found ≡ nearest (λ i. not (allowed (get_or (take n b.stores.text) i 0))) (length (take n b.stores.text)) 0) where
       -- What comes behind the search for a bad byte.
       lines-decide : Called
@@ -152,18 +151,18 @@ module _ (n H W : ℕ) (b : Lent) {ok : Bool} (known : ok ≡ tabled H W b) wher
           cond-true _ _ (stores-fit H W b known passed) ∙ cond-true _ _ (le-leb n _ fits)
           ∙ ap (λ s. unless_at TEXT s b lines-decide) (sym (search ∙ bad-byte-within n b.stores.text fits))
 
-      pub text-refused : {r : Reply} (i : ℕ) → found ≡ Reached i → r ≡ unopened_reply TEXT i → called r b ≡ opened n H W b
+      pub text-refused : {r : Reply} (i : ℕ) → found ≡ Some i → r ≡ unopened_reply TEXT i → called r b ≡ opened n H W b
       text-refused i there e = ap (λ q. called q b) e ∙ sym (bytes-decide ∙ ap (λ s. unless_at TEXT s b lines-decide) there)
 
-      module _ (none : found ≡ Nowhere) {line : Search} (lines : line ≡ bad_line n b.stores.text) where
+      module _ (none : found ≡ None) {line : Option ℕ} (lines : line ≡ bad_line n b.stores.text) where
         line-decides : opened n H W b ≡ unless_at LINE line b (opened_text n H W b)
         unfolding lines-decide
         line-decides =
             bytes-decide ∙ ap (λ s. unless_at TEXT s b lines-decide) none ∙ ap (λ s. unless_at LINE s b (opened_text n H W b)) (sym lines)
 
-        pub line_refused : {r : Reply} (i : ℕ) → line ≡ Reached i → r ≡ unopened_reply LINE i → called r b ≡ opened n H W b
+        pub line_refused : {r : Reply} (i : ℕ) → line ≡ Some i → r ≡ unopened_reply LINE i → called r b ≡ opened n H W b
         line_refused i there e =
             ap (λ q. called q b) e ∙ sym (line-decides ∙ ap (λ s. unless_at LINE s b (opened_text n H W b)) there)
 
-        pub text-accepted : line ≡ Nowhere → opened_text n H W b ≡ opened n H W b
+        pub text-accepted : line ≡ None → opened_text n H W b ≡ opened n H W b
         text-accepted fits = sym (line-decides ∙ ap (λ s. unless_at LINE s b (opened_text n H W b)) fits)

@@ -1,4 +1,5 @@
 -- What a key reports, and the text that it leaves: by the side on which it acts and by what its search answers.
+use Rattle.std.proofs.Common.{Option, Some, None}
 use mathlib.Core.Path.{◌≡◌, refl, sym, ap, ◌∙◌}
 use mathlib.Core.Logic.{◌↔◌}
 use mathlib.Core.Bool.{Bool, true, false, cond, false≢true}
@@ -14,12 +15,10 @@ use Rattle.gap.specs.Rules.Nearest.{distance}
 use Rattle.gap.proofs.Laws.Doc.{deletions-right}
 use Rattle.gap.proofs.Theorems.Distance.{distance_least, distance-nowhere}
 use Rattle.editor.specs.Rules.Plain.{Side, Plain, quiet, rang, went, reporting}
-use Rattle.gap.specs.declared.Search.TheVariants as found
 use Rattle.editor.specs.Rules.Passages.{lines_passed, with_lines, passage_to}
 use Rattle.editor.specs.Rules.Keys.{carried, side_of, with_side, with_pattern, matches, with_replacement, substituted}
 use Rattle.editor.specs.declared.Passage.{Passage}
-use Rattle.editor.specs.declared.Passage.TheVariants.{Reached, Nowhere}
-use Rattle.window.specs.Words.{Direction, Left, Right, Search, Action, Move, Delete, Mode, Main, Quoted, Report}
+use Rattle.window.specs.Words.{Direction, Left, Right, Action, Move, Delete, Mode, Main, Quoted, Report}
 use Rattle.editor.proofs.Theorems.LinesCrossed.{moved-left, moved-right, deleted-left, deleted-right}
 use Rattle.window.specs.Rules.Window.{virtual_in, row_of, virtual}
 use Rattle.window.specs.Rules.Core.{Called}
@@ -58,33 +57,33 @@ replaced-told Quoted p = either _ _ (matches p.pattern p.main.text)
 
 -- ---- What a search makes a key report
 
-abbrev pub told : Passage → Report
-told (Reached n lines) = went n lines
-told Nowhere = rang
+abbrev pub told : Option Passage → Report
+told (Some passage) = went passage.steps passage.lines
+told None = rang
 
 module _ (way : Direction) (d : Doc) where
-  told-went : (answer : Search) (n : ℕ) → (told (with_lines way d answer) ≡ went n (lines_passed way n d)) ↔ (answer ≡ found.Reached n)
+  told-went : (answer : Option ℕ) (n : ℕ) → (told (with_lines way d answer) ≡ went n (lines_passed way n d)) ↔ (answer ≡ Some n)
   unfolding with_lines
-  told-went (found.Reached m) n = (λ e. ap (λ report. found.Reached report.steps) e, λ e. ap (λ answer. told (with_lines way d answer)) e)
-  told-went found.Nowhere n = (
+  told-went (Some m) n = (λ e. ap (λ report. Some report.steps) e, λ e. ap (λ answer. told (with_lines way d answer)) e)
+  told-went None n = (
     λ e. absurd (false≢true (sym (ap (λ report. report.bell) e))),
     λ e. ap (λ answer. told (with_lines way d answer)) e,
   )
 
-  told-rang : (answer : Search) → (told (with_lines way d answer) ≡ rang) ↔ (answer ≡ found.Nowhere)
+  told-rang : (answer : Option ℕ) → (told (with_lines way d answer) ≡ rang) ↔ (answer ≡ None)
   unfolding with_lines
-  told-rang (found.Reached m) = (
+  told-rang (Some m) = (
     λ e. absurd (false≢true (ap (λ report. report.bell) e)),
     λ e. ap (λ answer. told (with_lines way d answer)) e,
   )
-  told-rang found.Nowhere = (λ e. refl, λ e. refl)
+  told-rang None = (λ e. refl, λ e. refl)
 
-pub carried-told : (action : Action) (way : Direction) (passage : Passage) (s : Side) → (carried action way passage s).report ≡ told passage
+pub carried-told : (action : Action) (way : Direction) (passage : Option Passage) (s : Side) → (carried action way passage s).report ≡ told passage
 unfolding carried
-carried-told Move way (Reached n lines) s = refl
-carried-told Move way Nowhere s = refl
-carried-told Delete way (Reached n lines) s = refl
-carried-told Delete way Nowhere s = refl
+carried-told Move way (Some passage) s = refl
+carried-told Move way None s = refl
+carried-told Delete way (Some passage) s = refl
+carried-told Delete way None s = refl
 
 -- An accepted call that reports so has the distance as its steps.
 pub told-steps : (way : Direction) (place : Doc → Bool) (d : Doc) (o : Called) → o.answer.code ≡ 0
@@ -103,24 +102,24 @@ told-steps way place d o accepts report =
     }
 
 -- The text that a key on one side leaves is that many single steps away; with the bell none.
-pub carried-text : (action : Action) (way : Direction) (passage : Passage) (s : Side)
+pub carried-text : (action : Action) (way : Direction) (passage : Option Passage) (s : Side)
     → (carried action way passage s).state.text ≡ times (singly action way) (carried action way passage s).report.steps s.text
 unfolding carried times
-carried-text Move way (Reached n lines) s = refl
-carried-text Move way Nowhere s = refl
-carried-text Delete way (Reached n lines) s = refl
-carried-text Delete way Nowhere s = refl
+carried-text Move way (Some passage) s = refl
+carried-text Move way None s = refl
+carried-text Delete way (Some passage) s = refl
+carried-text Delete way None s = refl
 
 -- ---- Lines
 
 -- With the bell there are no lines, as there are none in 0 steps.
-told-lines : (way : Direction) (d : Doc) (answer : Search)
+told-lines : (way : Direction) (d : Doc) (answer : Option ℕ)
     → (told (with_lines way d answer)).lines ≡ lines_passed way (told (with_lines way d answer)).steps d
 unfolding with_lines passed newlines
-told-lines way d (found.Reached n) = refl
-told-lines Left d found.Nowhere =
+told-lines way d (Some n) = refl
+told-lines Left d None =
     let whole : length d.l ≤ length d.l - 0 = omega arith in ap newlines (sym (drop_of_length-le d.l whole))
-told-lines Right d found.Nowhere = refl
+told-lines Right d None = refl
 
 pub reported-lines : (way : Direction) (place : Doc → Bool) (d : Doc) {report : Report} → report ≡ told (passage_to way place d)
     → report.lines ≡ lines_passed way report.steps d

@@ -1,4 +1,5 @@
 -- Laws of the rows of a screen, of the named rows, and of the terminal that repaints them.
+use Rattle.std.proofs.Common.{Option, Some, None}
 use mathlib.Core.Path.{◌≡◌, refl, sym, ap, ◌∙◌}
 use mathlib.Core.Logic.{◌≢◌}
 use mathlib.Core.Bool.{Bool, true, false}
@@ -11,8 +12,6 @@ use lib.Seq.{take_all, take-add, drop-drop}
 use borrow.Author.Tests.{not-true, not-false, ne_eqb}
 use Rattle.gap.specs.Rules.Sequence.{same_bytes, part}
 use Rattle.gap.specs.Rules.Nearest.{nearest}
-use Rattle.gap.specs.declared.Search.{Search}
-use Rattle.gap.specs.declared.Search.TheVariants.{Reached, Nowhere}
 use Rattle.gap.proofs.Laws.Tests.{clash, cond-false}
 use Rattle.gap.proofs.Laws.Sequence.{same_refl, same-equal}
 use Rattle.gap.proofs.Laws.Nearest.{reached-least, nowhere-none}
@@ -83,8 +82,8 @@ module _ (test : ℕ → Bool) (H : ℕ) where
   abbrev upward : ℕ → Bool
   upward i = test (suc H - i)
 
-  searched : (down up : Search) → nearest test H 1 ≡ down → nearest upward H 1 ≡ up → Named test H (or_none down) (from_below H up)
-  searched (Reached i) (Reached j) p q =
+  searched : (down up : Option ℕ) → nearest test H 1 ≡ down → nearest upward H 1 ≡ up → Named test H (or_none down) (from_below H up)
+  searched (Some i) (Some j) p q =
       let least = reached-least test H 1 i p in
       let greatest = reached-least upward H 1 j q in
       let not-crossed : ¬ (suc H - j < i) = λ h. clash greatest.passes (least.before (suc H - j) (omega arith) h) in
@@ -97,14 +96,14 @@ module _ (test : ℕ → Bool) (H : ℕ) where
         above = least.before;
         below = λ k low high. rw (turned-back H k high) at (greatest.before (suc H - k) (omega arith) (omega arith));
       })
-  searched (Reached i) Nowhere p q =
+  searched (Some i) None p q =
       let least = reached-least test H 1 i p in
       let unchanged = nowhere-none upward H 1 q (suc H - i) (omega arith) (omega arith) in
       clash least.passes (rw (turned-back H i (omega arith)) at unchanged)
-  searched Nowhere (Reached j) p q =
+  searched None (Some j) p q =
       let greatest = reached-least upward H 1 j q in
       clash greatest.passes (nowhere-none test H 1 p (suc H - j) (omega arith) (omega arith))
-  searched Nowhere Nowhere p q = nothing (λ i low high. nowhere-none test H 1 p i low (omega arith))
+  searched None None p q = nothing (λ i low high. nowhere-none test H 1 p i low (omega arith))
 
 -- The first and the last named row are named so by the test of rows.
 pub named : (H W : ℕ) (old new : List ℕ) → Named (changed W old new) H (first_row H W old new) (last_row H W old new)

@@ -1,4 +1,5 @@
 -- The call that writes bytes for a terminal: what its tests refuse, and what it writes.
+use Rattle.std.proofs.Common.{Option, Some, None}
 use mathlib.Core.Path.{◌≡◌, refl, sym, ap, ◌∙◌}
 use mathlib.Core.Bool.{Bool, true, false, not, ◌&&◌}
 use mathlib.Core.List.{List, ◌++◌}
@@ -8,8 +9,6 @@ use native.Mathlib.Omega.{arith}
 use lib.Dec.{eqb}
 use lib.ListN.{length}
 use borrow.Author.Tests.{le-leb, lt-leb, not-true, not-false}
-use Rattle.gap.specs.declared.Search.{Search}
-use Rattle.gap.specs.declared.Search.TheVariants.{Reached, Nowhere}
 use Rattle.gap.specs.Rules.Sequence.{patch}
 use Rattle.gap.specs.Wording.Written.{Wrote}
 use Rattle.gap.proofs.Laws.Tests.{cond-true, cond-false}
@@ -107,18 +106,18 @@ module _ (H W first last row column : ℕ) (screen buffer : List ℕ) {ok : Bool
   size-refused bad e = ap (λ b. outcome_of b buffer) e ∙ sym (cond-false _ _ (sym known ∙ not-true _ bad))
 
   -- What follows on the search for a byte that is not printed.
-  abbrev after : Search → SendOutcome
+  abbrev after : Option ℕ → SendOutcome
   after s = unless_bad_cell s buffer (sent_into (sent_screen W first last row column screen) buffer)
 
-  module _ (passed : not ok ≡ false) {found : Search} (search : found ≡ bad_cell screen) where
+  module _ (passed : not ok ≡ false) {found : Option ℕ} (search : found ≡ bad_cell screen) where
     cells-decide : sending H W first last row column screen buffer ≡ after found
     unfolding sending
     cells-decide = cond-true _ _ (sym known ∙ not-false _ passed) ∙ ap after (sym search)
 
-    pub text-refused : {a : Sending} (i : ℕ) → found ≡ Reached i → a ≡ record { code = TEXT; place = i; count = 0 }
+    pub text-refused : {a : Sending} (i : ℕ) → found ≡ Some i → a ≡ record { code = TEXT; place = i; count = 0 }
         → outcome_of a buffer ≡ sending H W first last row column screen buffer
     text-refused i there e = ap (λ b. outcome_of b buffer) e ∙ sym (cells-decide ∙ ap after there)
 
-    pub cells-printed : found ≡ Nowhere
+    pub cells-printed : found ≡ None
         → sent_into (sent_screen W first last row column screen) buffer ≡ sending H W first last row column screen buffer
     cells-printed none = sym (cells-decide ∙ ap after none)

@@ -1,6 +1,6 @@
 -- MARK, CUT and PASTE from what the calls promise (02, M-101): in QUOTED all three get KEY; in MAIN, MARK and CUT are always accepted; CUT, then
 -- PASTE at once, restores text and cursor.
-use Rattle.std.specs.Prelude.{true}
+use Rattle.std.specs.Prelude.{true, Some}
 use mathlib.Core.Path.{◌≡◌, refl, sym, ap, ap₂, subst⁻¹, ◌∙◌}
 use mathlib.Core.Logic.{◌↔◌}
 use Prim.Native.Nat.{ℕ}
@@ -20,7 +20,7 @@ use Rattle.editor.proofs.Laws.LongLines.{readable-within}
 use Rattle.editor.proofs.Laws.Outcomes.{accepted}
 use Rattle.editor.proofs.Theorems.Refusals.{key-unsound}
 use Rattle.editor.proofs.Theorems.Cuts.{leaving, cut-deletes, cut-then-paste}
-use Rattle.window.specs.Words.{Main, Quoted, At, Session, Key, Mark, Cut, Paste}
+use Rattle.window.specs.Words.{Main, Quoted, Session, Key, Mark, Cut, Paste}
 use Rattle.window.specs.Rules.Core.{Lent, Called, T, held, turned_down, finished, shown}
 use Rattle.window.specs.Wording.Promise.{KeyPromise}
 use Rattle.window.specs.Wording.Demands.{OnSession, Carried}
@@ -93,7 +93,7 @@ module _ (s : Session) (b : Lent) (on : OnSession s b) (o : Called) where
 -- ---- CUT with a mark, then PASTE at once
 
 module _ (s : Session) (b : Lent) (o : Called) (promise : KeyPromise s Cut b o) (accepts : o.answer.code ≡ 0) (m : ℕ)
-    (marked : (held s b.stores).mark ≡ At m) (next : Called) (pastes : KeyPromise o.session Paste o.lent next) where
+    (marked : (held s b.stores).mark ≡ Some m) (next : Called) (pastes : KeyPromise o.session Paste o.lent next) where
   abbrev start : Plain
   start = held s b.stores
 

@@ -1,4 +1,5 @@
 -- Demand 3 at the host's boundary: opening and any list of keys in numbers, record and stores handed on as they came back.
+use Rattle.std.proofs.Common.{Some}
 use mathlib.Core.Path.{◌≡◌, refl, sym, ap, ◌∙◌}
 use mathlib.Core.Logic.{⊎_elim}
 use mathlib.Core.List.{List, [], ◌∷◌, map}
@@ -10,7 +11,7 @@ use Rattle.editor.specs.Rules.Refusals.{KEY}
 use Rattle.editor.specs.Rules.Plain.{Plain, opening, refused}
 use Rattle.editor.specs.Rules.Keys.{sound_key, key, keys}
 use Rattle.editor.specs.Rules.Bytes.{quarter}
-use Rattle.window.specs.Words.{At, Session}
+use Rattle.window.specs.Words.{Session}
 use Rattle.window.specs.Rules.Core.{Lent, T, keyed}
 use Rattle.window.specs.Rules.Terminal.{Bench, View, opening_view, opened_bench, struck, typed, looked, viewed, picture}
 use Rattle.window.specs.Rules.Sending.{SendOutcome}
@@ -30,7 +31,7 @@ use Rattle.window.proofs.Theorems.Boundary.{in-mode}
 
 -- A record that came from the core goes back to it as it was: the call in numbers is the core's. That its mark has a number of its own is so from
 -- call to call.
-pressed-over : (s : Session) (x : KeyNumbers) (b : Lent) → ¬ (s.lengths.mark ≡ At no_mark)
+pressed-over : (s : Session) (x : KeyNumbers) (b : Lent) → ¬ (s.lengths.mark ≡ Some no_mark)
     → host_pressed (record_from s) x b ≡ given_of (keyed s (key_of x) b)
 pressed-over s x b other =
     in-mode (record_from s) x b (le-leb _ 1 (mode-low s.lengths.mode)) ∙ ap (λ s. given_of (keyed s (key_of x) b)) ((session-over s).1 other)
@@ -56,12 +57,12 @@ skipped size (x ∷ xs) v =
 abbrev in_numbers : Bench → HostBench
 in_numbers at = record { given = given_of at.called; terminal = at.terminal }
 
-struck-over : (x : KeyNumbers) (at : Bench) → ¬ (at.called.session.lengths.mark ≡ At no_mark)
+struck-over : (x : KeyNumbers) (at : Bench) → ¬ (at.called.session.lengths.mark ≡ Some no_mark)
     → host_struck x (in_numbers at) ≡ in_numbers (struck (key_of x) at)
 unfolding host_struck struck
 struck-over x at other = ap (λ g. host_shown g at.terminal) (pressed-over at.called.session x at.called.lent other)
 
-typed-over : (xs : List KeyNumbers) (at : Bench) → ¬ (at.called.session.lengths.mark ≡ At no_mark)
+typed-over : (xs : List KeyNumbers) (at : Bench) → ¬ (at.called.session.lengths.mark ≡ Some no_mark)
     → host_typed xs (in_numbers at) ≡ in_numbers (typed (map key_of xs) at)
 unfolding host_typed typed struck
 typed-over [] at other = refl
@@ -87,13 +88,13 @@ module _ (n H W : ℕ) (b : Lent) (accepts : (host_opened n H W b).said.code ≡
 abbrev line_in_numbers : Line → HostLine
 line_in_numbers at = record { given = given_of at.called; buffer = at.buffer; terminal = at.terminal }
 
-struck-line-over : (x : KeyNumbers) (at : Line) → ¬ (at.called.session.lengths.mark ≡ At no_mark)
+struck-line-over : (x : KeyNumbers) (at : Line) → ¬ (at.called.session.lengths.mark ≡ Some no_mark)
     → host_struck_line x (line_in_numbers at) ≡ line_in_numbers (struck_line (key_of x) at)
 unfolding host_struck_line struck_line
 struck-line-over x at other =
     ap (λ g. host_received g (host_bytes g at.buffer) at.terminal) (pressed-over at.called.session x at.called.lent other)
 
-typed-line-over : (xs : List KeyNumbers) (at : Line) → ¬ (at.called.session.lengths.mark ≡ At no_mark)
+typed-line-over : (xs : List KeyNumbers) (at : Line) → ¬ (at.called.session.lengths.mark ≡ Some no_mark)
     → host_typed_line xs (line_in_numbers at) ≡ line_in_numbers (typed_line (map key_of xs) at)
 unfolding host_typed_line typed_line struck_line
 typed-line-over [] at other = refl

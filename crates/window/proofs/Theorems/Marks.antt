@@ -1,5 +1,6 @@
 -- Mark and held text of sessions (02, M-101): the mark lies within the document and of the held pair one half is empty, in every session and after
 -- any keys; and every session comes back from the host's numbers as it was.
+use Rattle.std.proofs.Common.{Option, Some, None}
 use mathlib.Core.Path.{◌≡◌, sym, ap, subst⁻¹, transport, ◌∙◌}
 use mathlib.Core.Logic.{⊎_elim}
 use mathlib.Core.Bool.{true, false≢true}
@@ -12,7 +13,7 @@ use Rattle.editor.specs.Rules.Marks.{mark_within}
 use Rattle.editor.specs.Rules.Bytes.{quarter, one_half, holding_sizes}
 use Rattle.editor.proofs.Laws.Session.{passed}
 use Rattle.editor.proofs.Laws.Fitting.{fitting}
-use Rattle.window.specs.Words.{Marking, Unmarked, At, Session, Key}
+use Rattle.window.specs.Words.{Session, Key}
 use Rattle.window.specs.Rules.Core.{Lent, T, tabled, is_session, opened_text, opened, keyed}
 use Rattle.window.specs.Rules.Terminal.{opened_bench, typed, opening_view, viewed, picture, record_of, stores_with}
 use Rattle.window.specs.Rules.Host.{no_mark, session_from, record_from}
@@ -27,13 +28,13 @@ use Rattle.window.proofs.Theorems.OverAndBack.{session-over}
 
 -- ---- Sessions
 
-at_same : {m n : ℕ} → At m ≡ At n → m ≡ n
+at_same : {m n : ℕ} → Some m ≡ Some n → m ≡ n
 at_same e = cc
 
-below_none : (mark : Marking) (n : ℕ) → n ≤ 65536 → mark_within n mark ≡ true → ¬ (mark ≡ At no_mark)
+below_none : (mark : Option ℕ) (n : ℕ) → n ≤ 65536 → mark_within n mark ≡ true → ¬ (mark ≡ Some no_mark)
 unfolding no_mark
-below_none Unmarked n low within e = false≢true cc
-below_none (At m) n low within e = omega (arith, leb-true m n within, at_same e)
+below_none None n low within e = false≢true cc
+below_none (Some m) n low within e = omega (arith, leb-true m n within, at_same e)
 
 module _ (s : Session) (b : Lent) (on : OnSession s b) where
   -- A session's mark lies within the document, whose ends are positions too, and of its held pair one half is empty.
@@ -44,7 +45,7 @@ module _ (s : Session) (b : Lent) (on : OnSession s b) where
   held-half = (passed quarter s.lengths b.stores (session-sound s b on.fit on.ok).ok).held_half
 
   -- So its mark is not at the largest size, which says that there is none.
-  pub mark-numbered : ¬ (s.lengths.mark ≡ At no_mark)
+  pub mark-numbered : ¬ (s.lengths.mark ≡ Some no_mark)
   mark-numbered =
       let fits = fitting quarter s.lengths b.stores (session-sound s b on.fit on.ok) in
       below_none s.lengths.mark (s.lengths.main.l + s.lengths.main.r) (omega (arith, fits.document, fits.high)) mark-within
@@ -65,7 +66,7 @@ module _ (n H W : ℕ) (b : Lent) (accepts : (opened n H W b).answer.code ≡ 0)
         ok = opened-session n H W b accepts;
       }
 
-  pub opening-numbered : ¬ ((opened n H W b).session.lengths.mark ≡ At no_mark)
+  pub opening-numbered : ¬ ((opened n H W b).session.lengths.mark ≡ Some no_mark)
   opening-numbered = mark-numbered (opened n H W b).session (opened n H W b).lent opening_on
 
   -- After a good opening and any keys, refused ones skipped, record and stores are a session, so its mark lies within the document.
@@ -86,10 +87,10 @@ module _ (n H W : ℕ) (b : Lent) (accepts : (opened n H W b).answer.code ≡ 0)
   mark-reached ks = let o = (typed ks (opened_bench n H W b)).called in mark-within o.session o.lent (reached-on ks)
 
 module _ (s : Session) (k : Key) (b : Lent) where
-  refused-numbered : ¬ (s.lengths.mark ≡ At no_mark) → ((keyed s k b).answer.code ≡ 0 → ⊥) → ¬ ((keyed s k b).session.lengths.mark ≡ At no_mark)
-  refused-numbered other bad = subst⁻¹ (λ o. ¬ (o.session.lengths.mark ≡ At no_mark)) (key-leaves s k b bad) other
+  refused-numbered : ¬ (s.lengths.mark ≡ Some no_mark) → ((keyed s k b).answer.code ≡ 0 → ⊥) → ¬ ((keyed s k b).session.lengths.mark ≡ Some no_mark)
+  refused-numbered other bad = subst⁻¹ (λ o. ¬ (o.session.lengths.mark ≡ Some no_mark)) (key-leaves s k b bad) other
 
-  pub key-numbered : ¬ (s.lengths.mark ≡ At no_mark) → ¬ ((keyed s k b).session.lengths.mark ≡ At no_mark)
+  pub key-numbered : ¬ (s.lengths.mark ≡ Some no_mark) → ¬ ((keyed s k b).session.lengths.mark ≡ Some no_mark)
   key-numbered other =
       ⊎_elim
       (λ fit.

@@ -1,4 +1,5 @@
 -- The numbers of the host's boundary: what goes over and back is the same, and which numbers name which key.
+use Rattle.std.proofs.Common.{Option, Some, None}
 use mathlib.Core.Path.{◌≡◌, refl, sym, ap, ◌∙◌}
 use mathlib.Core.Logic.{◌↔◌, ⊎_elim}
 use mathlib.Core.Bool.{Bool, true, false, ◌&&◌, false≢true}
@@ -8,7 +9,7 @@ use lib.Dec.{eqb, leb}
 use borrow.Author.Tests.{leb-true, lt-leb, eqb-true, eq-eqb, ne_eqb}
 use Rattle.gap.proofs.Laws.Tests.{decided, clash, and_left, and_right, and_both, cond-true, cond-false}
 use Rattle.gap.specs.Rules.Numbers.{bit}
-use Rattle.window.specs.Words.{Marking, Unmarked, At, Mode, Main, Quoted, Session, Answer, Direction, Left, Right, Action, Move, Delete}
+use Rattle.window.specs.Words.{Mode, Main, Quoted, Session, Answer, Direction, Left, Right, Action, Move, Delete}
 use Rattle.window.specs.Words.{Place, Character, Word, LineBeginning, LineEnding, Document}
 use Rattle.window.specs.Words.{Key, Insert, Function, Recall, Quote, Find, Replace, Mark, Cut, Paste, Newline, Tab}
 use Rattle.window.specs.declared.host.Record.{Record}
@@ -23,22 +24,22 @@ mode-over : (m : Mode) → mode_of (mode_number m) ≡ m
 mode-over Main = refl
 mode-over Quoted = refl
 
-unmarked-at : {m : ℕ} → ¬ (Unmarked ≡ At m)
+unmarked-at : {m : ℕ} → ¬ (None ≡ Some m)
 unmarked-at e = false≢true cc
 
-at_same : {m n : ℕ} → At m ≡ At n → m ≡ n
+at_same : {m n : ℕ} → Some m ≡ Some n → m ≡ n
 at_same e = cc
 
-mark-over : (mark : Marking) → (mark_from (mark_number mark) ≡ mark) ↔ (¬ (mark ≡ At no_mark))
-mark-over Unmarked = (λ e. unmarked-at, λ other. cond-true _ _ (eq-eqb no_mark no_mark refl))
-mark-over (At m) = (
+mark-over : (mark : Option ℕ) → (mark_from (mark_number mark) ≡ mark) ↔ (¬ (mark ≡ Some no_mark))
+mark-over None = (λ e. unmarked-at, λ other. cond-true _ _ (eq-eqb no_mark no_mark refl))
+mark-over (Some m) = (
   λ e same. unmarked-at (sym (cond-true _ _ (eq-eqb m no_mark (at_same same))) ∙ e),
-  λ other. cond-false _ _ (ne_eqb m no_mark (λ same. other (ap At same))),
+  λ other. cond-false _ _ (ne_eqb m no_mark (λ same. other (ap Some same))),
 )
 
 -- A session record comes back from its numbers as it was exactly when its mark is not at the number that says that there is none. So does every
 -- session: session-comes-back in Theorems/Marks.
-pub session-over : (s : Session) → (session_from (record_from s) ≡ s) ↔ (¬ (s.lengths.mark ≡ At no_mark))
+pub session-over : (s : Session) → (session_from (record_from s) ≡ s) ↔ (¬ (s.lengths.mark ≡ Some no_mark))
 session-over s = (
   λ e. (mark-over s.lengths.mark).0 (ap (λ t. t.lengths.mark) e),
   λ other. rw (mode-over s.lengths.mode, (mark-over s.lengths.mark).1 other),
@@ -56,8 +57,8 @@ mode-low Quoted = omega arith
 mark-number-over : (m : ℕ) → mark_number (mark_from m) ≡ m
 mark-number-over m =
     ⊎_elim
-    (λ none. ap mark_number (cond-true Unmarked (At m) none) ∙ sym (eqb-true m no_mark none))
-    (λ some. ap mark_number (cond-false Unmarked (At m) some))
+    (λ none. ap mark_number (cond-true None (Some m) none) ∙ sym (eqb-true m no_mark none))
+    (λ some. ap mark_number (cond-false None (Some m) some))
     (decided (eqb m no_mark))
 
 -- A host's record comes back from the core as it was, number for number, exactly when its mode is 0 or 1.

@@ -1,4 +1,5 @@
 -- The definitions give each example of the tables, through opening and keys on bytes.
+use Rattle.std.proofs.Common.{None}
 use mathlib.Core.Path.{◌≡◌, refl}
 use mathlib.Core.Bool.{false}
 use mathlib.Core.List.{[], ◌++◌}
@@ -25,7 +26,7 @@ use Rattle.editor.specs.Tables.KeyExamples.{unmarked, mark_after, states, states
 use Rattle.editor.specs.Tables.KeyPins.{place_pins, edit_pins}
 use Rattle.editor.specs.Tables.QuotationPins.{quotation_pins, search_pins, replace_pins}
 use Rattle.editor.specs.Tables.CutPins.{cut_pins, paste_pins}
-use Rattle.window.specs.Words.{Main, Unmarked, Session}
+use Rattle.window.specs.Words.{Main, Session}
 use Rattle.window.specs.Rules.Window.{virtual_in, row_cells, joined, window, visible, policy}
 use Rattle.window.specs.Rules.Rows.{first_row, last_row}
 use Rattle.window.specs.Rules.Core.{Lent, tabled, is_session, unopened, opened_text, opened, turned_down, shown, finished, keyed}
@@ -102,7 +103,7 @@ pub refused-opening : (b : Lent) (code place : ℕ) → unopened b code place �
       mode = Main;
       hl = 0;
       hr = 0;
-      mark = Unmarked;
+      mark = None;
     };
     frame = record { r = 0; c = 0; h = 0; w = 0 };
   };

@@ -1,4 +1,5 @@
 -- Refusals: each number exactly when document 01's table says, in its order, and what a refused call leaves.
+use Rattle.std.proofs.Common.{Option, Some, None}
 use mathlib.Core.Path.{◌≡◌, refl, sym, ap, ◌∙◌}
 use mathlib.Core.Logic.{◌↔◌, ⊎_elim}
 use mathlib.Core.Bool.{Bool, true, false, not, cond}
@@ -10,8 +11,6 @@ use lib.ListN.{length, take, get_or}
 use lib.Seq.{length-take-le, get_or-take}
 use borrow.Author.Tests.{leb-true, not-true, not-false}
 use Rattle.gap.specs.Rules.Checks.{check, first_failed, Passing}
-use Rattle.gap.specs.declared.Search.{Search}
-use Rattle.gap.specs.declared.Search.TheVariants.{Reached, Nowhere}
 use Rattle.gap.specs.Rules.Sequence.{every}
 use Rattle.gap.specs.Rules.Nearest.{nearest}
 use Rattle.gap.specs.Rules.Layout.{allowed}
@@ -35,9 +34,9 @@ use Rattle.gap.proofs.Laws.Order.{exactly, accepted-exactly}
 
 -- ---- opening
 
-abbrev pub none : Search → Bool
-none (Reached i) = false
-none Nowhere = true
+abbrev pub none : Option ℕ → Bool
+none (Some i) = false
+none None = true
 
 -- A search for a byte that fails a test finds none exactly when each of the first n bytes passes.
 pub none-fails : (test : ℕ → Bool) (n : ℕ) (text : List ℕ) → n ≤ length text
@@ -47,8 +46,8 @@ none-fails test n text h = go (nearest (λ i. not (test (get_or text i 0))) n 0)
     bytes : length (take n text) ≡ n
     bytes = length-take-le n text h
 
-    go : (s : Search) → nearest (λ i. not (test (get_or text i 0))) n 0 ≡ s → none s ≡ every test (take n text)
-    go (Reached i) e =
+    go : (s : Option ℕ) → nearest (λ i. not (test (get_or text i 0))) n 0 ≡ s → none s ≡ every test (take n text)
+    go (Some i) e =
         let least = reached-least _ n 0 i e in
         let below : i < n = omega (arith, least.within) in
         let short : i < length (take n text) = omega (arith, bytes) in
@@ -59,7 +58,7 @@ none-fails test n text h = go (nearest (λ i. not (test (get_or text i 0))) n 0)
         (not-true _ least.passes))
         (λ bad. sym bad)
         (decided (every test (take n text)))
-    go Nowhere e =
+    go None e =
         sym
         (at_every test (take n text)
         (λ i short.
@@ -72,9 +71,9 @@ pub none-long : (limit : ℕ) (s : List ℕ) → none (long_line limit s) ≡ li
 none-long limit s =
     ⊎_elim (λ fits. ap none (fit-nowhere limit s fits) ∙ sym fits) (λ bad. go (long_line limit s) refl bad ∙ sym bad) (decided (lines_fit limit s))
   where
-    go : (found : Search) → long_line limit s ≡ found → lines_fit limit s ≡ false → none found ≡ false
-    go (Reached i) e bad = refl
-    go Nowhere e bad = clash (nowhere-fit limit s e) bad
+    go : (found : Option ℕ) → long_line limit s ≡ found → lines_fit limit s ≡ false → none found ≡ false
+    go (Some i) e bad = refl
+    go None e bad = clash (nowhere-fit limit s e) bad
 
 -- The check of the bytes counts only where the stated length fits.
 bytes-check : (t u v w x : Bool) → (u ≡ true → v ≡ w)
@@ -87,7 +86,7 @@ bytes-check true true v w x e = ap (λ y. first_failed (check TEXT y ∷ check L
 
 module _ (n H W : ℕ) (b : Lent) where
   -- What opening answers, by its four tests.
-  choice : Bool → Bool → Search → Search → Called
+  choice : Bool → Bool → Option ℕ → Option ℕ → Called
   choice t u s l =
       cond t (cond u (unless_at TEXT s b (unless_at LINE l b (opened_text n H W b))) (unopened b LONG 0)) (unopened b SIZE 0)
 
@@ -98,14 +97,14 @@ module _ (n H W : ℕ) (b : Lent) where
   unfolding opened choice
   is-chosen = refl
 
-  code_of : (t u : Bool) (s l : Search)
+  code_of : (t u : Bool) (s l : Option ℕ)
       → (choice t u s l).answer.code ≡ first_failed (check SIZE t ∷ check LONG u ∷ check TEXT (none s) ∷ check LINE (none l) ∷ [])
   unfolding choice opened_text first_failed
   code_of false u s l = refl
   code_of true false s l = refl
-  code_of true true (Reached i) l = refl
-  code_of true true Nowhere (Reached i) = refl
-  code_of true true Nowhere Nowhere = refl
+  code_of true true (Some i) l = refl
+  code_of true true None (Some i) = refl
+  code_of true true None None = refl
 
   pub opening_code : (opened n H W b).answer.code ≡ first_failed (opening_checks n H W b)
   opening_code =
@@ -141,26 +140,26 @@ module _ (n H W : ℕ) (b : Lent) where
   pub opening-accepted : ((opened n H W b).answer.code ≡ 0) ↔ Passing (opening_checks n H W b)
   opening-accepted = rw opening_code (accepted-exactly (opening_checks n H W b) refl)
 
-  accepts : (t u : Bool) (s l : Search) → (choice t u s l).answer.code ≡ 0 → choice t u s l ≡ opened_text n H W b
+  accepts : (t u : Bool) (s l : Option ℕ) → (choice t u s l).answer.code ≡ 0 → choice t u s l ≡ opened_text n H W b
   unfolding choice
   accepts false u s l e = absurd (omega (arith, e))
   accepts true false s l e = absurd (omega (arith, e))
-  accepts true true (Reached i) l e = absurd (omega (arith, e))
-  accepts true true Nowhere (Reached i) e = absurd (omega (arith, e))
-  accepts true true Nowhere Nowhere e = refl
+  accepts true true (Some i) l e = absurd (omega (arith, e))
+  accepts true true None (Some i) e = absurd (omega (arith, e))
+  accepts true true None None e = refl
 
   pub opening-done : (opened n H W b).answer.code ≡ 0 → opened n H W b ≡ opened_text n H W b
   opening-done e = is-chosen ∙ accepts _ _ _ _ (ap (λ o. o.answer.code) (sym is-chosen) ∙ e)
 
   -- A refused opening returns a record of zeros in mode MAIN with no mark and leaves all five stores; steps, bell, rows and cursor are 0.
-  leaves : (t u : Bool) (s l : Search) → ((choice t u s l).answer.code ≡ 0 → ⊥)
+  leaves : (t u : Bool) (s l : Option ℕ) → ((choice t u s l).answer.code ≡ 0 → ⊥)
       → choice t u s l ≡ unopened b (choice t u s l).answer.code (choice t u s l).answer.place
   unfolding choice opened_text
   leaves false u s l bad = refl
   leaves true false s l bad = refl
-  leaves true true (Reached i) l bad = refl
-  leaves true true Nowhere (Reached i) bad = refl
-  leaves true true Nowhere Nowhere bad = absurd (bad refl)
+  leaves true true (Some i) l bad = refl
+  leaves true true None (Some i) bad = refl
+  leaves true true None None bad = absurd (bad refl)
 
   pub opening-leaves : ((opened n H W b).answer.code ≡ 0 → ⊥)
       → opened n H W b ≡ unopened b (opened n H W b).answer.code (opened n H W b).answer.place
@@ -169,13 +168,13 @@ module _ (n H W : ℕ) (b : Lent) where
       leaves (tabled H W b) (leb n (T b.stores)) (bad_byte n b.stores.text) (bad_line n b.stores.text) bad
 
   -- For TEXT the place is the first index whose byte is not allowed, for LINE the index at which the first longer line begins, and otherwise 0.
-  places : (t u : Bool) (s l : Search) → (choice t u s l).answer.code ≡ TEXT → s ≡ Reached (choice t u s l).answer.place
+  places : (t u : Bool) (s l : Option ℕ) → (choice t u s l).answer.code ≡ TEXT → s ≡ Some (choice t u s l).answer.place
   unfolding choice opened_text
   places false u s l e = absurd (omega (arith, e))
   places true false s l e = absurd (omega (arith, e))
-  places true true (Reached i) l e = refl
-  places true true Nowhere (Reached i) e = absurd (omega (arith, e))
-  places true true Nowhere Nowhere e = absurd (omega (arith, e))
+  places true true (Some i) l e = refl
+  places true true None (Some i) e = absurd (omega (arith, e))
+  places true true None None e = absurd (omega (arith, e))
 
   pub opening-place : (opened n H W b).answer.code ≡ TEXT
       → Least (λ i. not (allowed (get_or b.stores.text i 0))) n 0 (opened n H W b).answer.place
@@ -184,13 +183,13 @@ module _ (n H W : ℕ) (b : Lent) where
       reached-least _ n 0 _
       (places (tabled H W b) (leb n (T b.stores)) (bad_byte n b.stores.text) (bad_line n b.stores.text) e)
 
-  line-places : (t u : Bool) (s l : Search) → (choice t u s l).answer.code ≡ LINE → l ≡ Reached (choice t u s l).answer.place
+  line-places : (t u : Bool) (s l : Option ℕ) → (choice t u s l).answer.code ≡ LINE → l ≡ Some (choice t u s l).answer.place
   unfolding choice opened_text
   line-places false u s l e = absurd (omega (arith, e))
   line-places true false s l e = absurd (omega (arith, e))
-  line-places true true (Reached i) l e = absurd (omega (arith, e))
-  line-places true true Nowhere (Reached i) e = refl
-  line-places true true Nowhere Nowhere e = absurd (omega (arith, e))
+  line-places true true (Some i) l e = absurd (omega (arith, e))
+  line-places true true None (Some i) e = refl
+  line-places true true None None e = absurd (omega (arith, e))
 
   pub opening-line-place : (opened n H W b).answer.code ≡ LINE
       → FirstLonger longest_line (take n b.stores.text) (opened n H W b).answer.place
@@ -199,14 +198,14 @@ module _ (n H W : ℕ) (b : Lent) where
       (long-line-first longest_line (take n b.stores.text) _).0
       (line-places (tabled H W b) (leb n (T b.stores)) (bad_byte n b.stores.text) (bad_line n b.stores.text) e)
 
-  no_place : (t u : Bool) (s l : Search) → ((choice t u s l).answer.code ≡ TEXT → ⊥) → ((choice t u s l).answer.code ≡ LINE → ⊥)
+  no_place : (t u : Bool) (s l : Option ℕ) → ((choice t u s l).answer.code ≡ TEXT → ⊥) → ((choice t u s l).answer.code ≡ LINE → ⊥)
       → (choice t u s l).answer.place ≡ 0
   unfolding choice opened_text
   no_place false u s l other also = refl
   no_place true false s l other also = refl
-  no_place true true (Reached i) l other also = absurd (other refl)
-  no_place true true Nowhere (Reached i) other also = absurd (also refl)
-  no_place true true Nowhere Nowhere other also = refl
+  no_place true true (Some i) l other also = absurd (other refl)
+  no_place true true None (Some i) other also = absurd (also refl)
+  no_place true true None None other also = refl
 
   pub opening-no-place : ((opened n H W b).answer.code ≡ TEXT → ⊥) → ((opened n H W b).answer.code ≡ LINE → ⊥)
       → (opened n H W b).answer.place ≡ 0

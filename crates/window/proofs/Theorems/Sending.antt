@@ -1,4 +1,5 @@
 -- The routine for terminals: each refusal exactly when M-100 says, in its order, and what is written. (02, M-100: refusals.)
+use Rattle.std.proofs.Common.{Option, Some, None}
 use mathlib.Core.Path.{◌≡◌, refl, ap, subst⁻¹, ◌∙◌}
 use mathlib.Core.Logic.{◌↔◌}
 use mathlib.Core.Bool.{Bool, true, false, not, cond}
@@ -11,8 +12,6 @@ use lib.ListN.{length, get_or}
 use lib.Seq.{take-length}
 use borrow.Author.Tests.{leb-true}
 use Rattle.gap.specs.Rules.Checks.{Check, check, first_failed, Passing}
-use Rattle.gap.specs.declared.Search.{Search}
-use Rattle.gap.specs.declared.Search.TheVariants.{Reached, Nowhere}
 use Rattle.gap.specs.Rules.Sequence.{every, patch}
 use Rattle.gap.specs.Rules.Layout.{printable}
 use Rattle.gap.specs.Wording.Written.{Wrote}
@@ -44,16 +43,16 @@ module _ (H W first last row column : ℕ) (screen buffer : List ℕ) where
   checks = send_checks H W first last row column screen buffer
 
   -- What is answered, by the three tests.
-  choice : Bool → Search → Bool → SendOutcome
+  choice : Bool → Option ℕ → Bool → SendOutcome
   choice t s u = cond t (unless_bad_cell s buffer (cond u (sent_front run buffer) (unsent ROOM 0 buffer))) (unsent SIZE 0 buffer)
 
-  code_of : (t : Bool) (s : Search) (u : Bool)
+  code_of : (t : Bool) (s : Option ℕ) (u : Bool)
       → (choice t s u).code ≡ first_failed (check SIZE t ∷ check TEXT (none s) ∷ check ROOM u ∷ [])
   unfolding choice first_failed
   code_of false s u = refl
-  code_of true (Reached i) u = refl
-  code_of true Nowhere false = refl
-  code_of true Nowhere true = refl
+  code_of true (Some i) u = refl
+  code_of true None false = refl
+  code_of true None true = refl
 
   -- No bad cell is found exactly when every byte of the screen is printed.
   no-bad-cell : none (bad_cell screen) ≡ every printable screen
@@ -80,48 +79,48 @@ module _ (H W first last row column : ℕ) (screen buffer : List ℕ) where
   sending-accepted = rw sending-code (accepted-exactly checks refl)
 
   -- For TEXT, place is the first index whose byte is not printed; otherwise it is 0.
-  places : (t : Bool) (s : Search) (u : Bool) → (choice t s u).code ≡ TEXT → s ≡ Reached (choice t s u).place
+  places : (t : Bool) (s : Option ℕ) (u : Bool) → (choice t s u).code ≡ TEXT → s ≡ Some (choice t s u).place
   unfolding choice
   places false s u e = absurd (omega (arith, e))
-  places true (Reached i) u e = refl
-  places true Nowhere false e = absurd (omega (arith, e))
-  places true Nowhere true e = absurd (omega (arith, e))
+  places true (Some i) u e = refl
+  places true None false e = absurd (omega (arith, e))
+  places true None true e = absurd (omega (arith, e))
 
   pub sending-place : answer.code ≡ TEXT → Least (λ i. not (printable (get_or screen i 0))) (length screen) 0 answer.place
   unfolding sending choice
   sending-place e = reached-least _ (length screen) 0 _ (places fit (bad_cell screen) (leb (length run) (length buffer)) e)
 
-  no_place : (t : Bool) (s : Search) (u : Bool) → ((choice t s u).code ≡ TEXT → ⊥) → (choice t s u).place ≡ 0
+  no_place : (t : Bool) (s : Option ℕ) (u : Bool) → ((choice t s u).code ≡ TEXT → ⊥) → (choice t s u).place ≡ 0
   unfolding choice
   no_place false s u other = refl
-  no_place true (Reached i) u other = absurd (other refl)
-  no_place true Nowhere false other = refl
-  no_place true Nowhere true other = refl
+  no_place true (Some i) u other = absurd (other refl)
+  no_place true None false other = refl
+  no_place true None true other = refl
 
   pub sending-no-place : (answer.code ≡ TEXT → ⊥) → answer.place ≡ 0
   unfolding sending choice
   sending-no-place other = no_place fit (bad_cell screen) (leb (length run) (length buffer)) other
 
   -- Refused, nothing is written: the count is 0, and the buffer is as it was.
-  leaves : (t : Bool) (s : Search) (u : Bool) → ((choice t s u).code ≡ 0 → ⊥)
+  leaves : (t : Bool) (s : Option ℕ) (u : Bool) → ((choice t s u).code ≡ 0 → ⊥)
       → choice t s u ≡ unsent (choice t s u).code (choice t s u).place buffer
   unfolding choice
   leaves false s u bad = refl
-  leaves true (Reached i) u bad = refl
-  leaves true Nowhere false bad = refl
-  leaves true Nowhere true bad = absurd (bad refl)
+  leaves true (Some i) u bad = refl
+  leaves true None false bad = refl
+  leaves true None true bad = absurd (bad refl)
 
   pub sending-leaves : (answer.code ≡ 0 → ⊥) → answer ≡ unsent answer.code answer.place buffer
   unfolding sending choice
   sending-leaves bad = leaves fit (bad_cell screen) (leb (length run) (length buffer)) bad
 
   -- Accepted, the bytes stand at the front of the buffer, which has room for them.
-  accepts : (t : Bool) (s : Search) (u : Bool) → (choice t s u).code ≡ 0 → choice t s u ≡ sent_front run buffer
+  accepts : (t : Bool) (s : Option ℕ) (u : Bool) → (choice t s u).code ≡ 0 → choice t s u ≡ sent_front run buffer
   unfolding choice
   accepts false s u e = absurd (omega (arith, e))
-  accepts true (Reached i) u e = absurd (omega (arith, e))
-  accepts true Nowhere false e = absurd (omega (arith, e))
-  accepts true Nowhere true e = refl
+  accepts true (Some i) u e = absurd (omega (arith, e))
+  accepts true None false e = absurd (omega (arith, e))
+  accepts true None true e = refl
 
   pub sending-done : answer.code ≡ 0 → answer ≡ sent_front run buffer
   unfolding sending choice

@@ -1,7 +1,7 @@
 -- The core: opening and the key call as total functions on any record and any five stores.
-use Rattle.std.specs.Prelude.{List, [], ◌∷◌, Bool, not, ◌&&◌, ℕ, ◌-◌, ◌*◌, eqb, leb, length, take, get_or}
+use Rattle.std.specs.Prelude.{List, [], ◌∷◌, Bool, not, ◌&&◌, ℕ, ◌-◌, ◌*◌, eqb, leb, length, take, get_or, Option, Some, None}
 use Rattle.gap.specs.Rules.Checks.{check, unless}
-use Rattle.window.specs.Words.{Key, Search, Reached, Nowhere, Report, Frame, Session, Answer}
+use Rattle.window.specs.Words.{Key, Report, Frame, Session, Answer}
 use Rattle.gap.specs.Rules.Doc.{Doc}
 use Rattle.gap.specs.Rules.Nearest.{nearest}
 use Rattle.gap.specs.Rules.Layout.{allowed}
@@ -102,17 +102,17 @@ opened_text n H W b =
     }
 
 -- The first of n bytes that is not allowed, from 0. (01, refusals: TEXT.)
-abbrev pub bad_byte : ℕ → List ℕ → Search
+abbrev pub bad_byte : ℕ → List ℕ → Option ℕ
 bad_byte n text = nearest (λ i. not (allowed (get_or text i 0))) n 0
 
 -- Where the first of its lines begins that the reader does not take. (02, M-106: place.)
-abbrev pub bad_line : ℕ → List ℕ → Search
+abbrev pub bad_line : ℕ → List ℕ → Option ℕ
 bad_line n text = long_line longest_line (take n text)
 
 -- Opening is refused with a number at the place that was found.
-abbrev pub unless_at : ℕ → Search → Lent → Called → Called
-unless_at code (Reached i) b o = unopened b code i
-unless_at code Nowhere b o = o
+abbrev pub unless_at : ℕ → Option ℕ → Lent → Called → Called
+unless_at code (Some i) b o = unopened b code i
+unless_at code None b o = o
 
 -- SIZE, then LONG, then TEXT, then LINE; n is the stated length of the text. (01, refusals: order. 02, M-106: at opening after TEXT.)
 unfoldable pub opened : ℕ → ℕ → ℕ → Lent → Called

@@ -1,6 +1,5 @@
 -- The host's boundary: record, key and answer as numbers. (DECISIONS D1 to D4.)
-use Rattle.std.specs.Prelude.{Bool, true, ◌&&◌, ◌||◌, cond, ℕ, eqb, leb}
-use Rattle.window.specs.Words.{Marking, Unmarked, At}
+use Rattle.std.specs.Prelude.{Bool, true, ◌&&◌, ◌||◌, cond, ℕ, eqb, leb, Option, Some, None}
 use Rattle.window.specs.Words.{Left, Right, Direction, Action, Move, Delete, Mode, Main, Quoted}
 use Rattle.window.specs.Words.{Place, Character, Word, LineBeginning, LineEnding, Document}
 use Rattle.window.specs.Words.{Session, Answer, Key, Insert, Function, Recall, Quote, Find, Replace, Mark, Cut, Paste, Newline, Tab}
@@ -29,12 +28,12 @@ mode_number Quoted = 1
 unfoldable pub no_mark : ℕ
 no_mark = 18446744073709551615
 
-abbrev pub mark_from : ℕ → Marking
-mark_from m = cond (eqb m no_mark) Unmarked (At m)
+abbrev pub mark_from : ℕ → Option ℕ
+mark_from m = cond (eqb m no_mark) None (Some m)
 
-abbrev pub mark_number : Marking → ℕ
-mark_number Unmarked = no_mark
-mark_number (At m) = m
+abbrev pub mark_number : Option ℕ → ℕ
+mark_number None = no_mark
+mark_number (Some m) = m
 
 -- The record as the core has it, and back.
 abbrev pub session_from : Record → Session

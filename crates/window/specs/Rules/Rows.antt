@@ -1,6 +1,5 @@
 -- Named rows. (01, the window: named rows.)
-use Rattle.std.specs.Prelude.{◌≡◌, ◌↔◌, ◌≢◌, ◌≤◌, List, Bool, not, ℕ, suc, ◌-◌, ◌*◌}
-use Rattle.window.specs.Words.{Search, Reached, Nowhere}
+use Rattle.std.specs.Prelude.{◌≡◌, ◌↔◌, ◌≢◌, ◌≤◌, List, Bool, not, ℕ, suc, ◌-◌, ◌*◌, Option, Some, None}
 use Rattle.gap.specs.Rules.Sequence.{same_bytes, part}
 use Rattle.gap.specs.Rules.Nearest.{nearest}
 
@@ -13,17 +12,17 @@ abbrev pub changed : ℕ → List ℕ → List ℕ → ℕ → Bool
 changed W old new i = not (same_bytes (screen_row W i old) (screen_row W i new))
 
 -- The first named row: the least of H that changed, or 0.
-abbrev pub or_none : Search → ℕ
-or_none (Reached i) = i
-or_none Nowhere = 0
+abbrev pub or_none : Option ℕ → ℕ
+or_none (Some i) = i
+or_none None = 0
 
 unfoldable pub first_row : ℕ → ℕ → List ℕ → List ℕ → ℕ
 first_row H W old new = or_none (nearest (changed W old new) H 1)
 
 -- The last named row: the greatest that changed, or 0. Counted upwards from the lowest row it is the least.
-abbrev pub from_below : ℕ → Search → ℕ
-from_below H (Reached i) = suc H - i
-from_below H Nowhere = 0
+abbrev pub from_below : ℕ → Option ℕ → ℕ
+from_below H (Some i) = suc H - i
+from_below H None = 0
 
 unfoldable pub last_row : ℕ → ℕ → List ℕ → List ℕ → ℕ
 last_row H W old new = from_below H (nearest (λ i. changed W old new (suc H - i)) H 1)

@@ -1,6 +1,5 @@
 -- The routine that writes these bytes into a lent buffer, as a total function on anything it is given. (02, M-100: refusals.)
-use Rattle.std.specs.Prelude.{◌≡◌, List, Bool, not, ◌&&◌, ◌||◌, cond, ℕ, ◌*◌, eqb, leb, length, take, drop, get_or}
-use Rattle.window.specs.Words.{Search, Reached, Nowhere}
+use Rattle.std.specs.Prelude.{◌≡◌, List, Bool, not, ◌&&◌, ◌||◌, cond, ℕ, ◌*◌, eqb, leb, length, take, drop, get_or, Option, Some, None}
 use Rattle.gap.specs.Rules.Sequence.{patch}
 use Rattle.gap.specs.Rules.Nearest.{nearest}
 use Rattle.gap.specs.Rules.Layout.{printable}
@@ -29,7 +28,7 @@ sendable H W first last row column screen =
     (rows_and_columns H W && eqb (length screen) (H * W)) && (rows_on H first last && cursor_on H W row column)
 
 -- The first byte of the screen that is not printed, wherever it stands. (M-100: TEXT. DECISIONS C1.)
-abbrev pub bad_cell : List ℕ → Search
+abbrev pub bad_cell : List ℕ → Option ℕ
 bad_cell screen = nearest (λ i. not (printable (get_or screen i 0))) (length screen) 0
 
 -- Refused, nothing is written. (M-100: nothing is written then.)
@@ -46,9 +45,9 @@ abbrev pub sent_into : List ℕ → List ℕ → SendOutcome
 sent_into run buffer = cond (leb (length run) (length buffer)) (sent_front run buffer) (unsent ROOM 0 buffer)
 
 -- TEXT comes before what else would be answered.
-abbrev pub unless_bad_cell : Search → List ℕ → SendOutcome → SendOutcome
-unless_bad_cell (Reached i) buffer p = unsent TEXT i buffer
-unless_bad_cell Nowhere buffer p = p
+abbrev pub unless_bad_cell : Option ℕ → List ℕ → SendOutcome → SendOutcome
+unless_bad_cell (Some i) buffer p = unsent TEXT i buffer
+unless_bad_cell None buffer p = p
 
 -- SIZE, then TEXT, then ROOM. (M-100: refusals, in order.)
 unfoldable pub sending : ℕ → ℕ → ℕ → ℕ → ℕ → ℕ → List ℕ → List ℕ → SendOutcome

@@ -1,6 +1,6 @@
 -- The editor's examples on bytes: the same keys on record and stores, in quarters of 16 bytes, which are enough for them.
-use Rattle.std.specs.Prelude.{List, [], ◌∷◌, ◌++◌, Bool, ◌&&◌, cond, ℕ, ◌-◌, ◌*◌, length}
-use Rattle.window.specs.Words.{Key, Main, Unmarked}
+use Rattle.std.specs.Prelude.{List, [], ◌∷◌, ◌++◌, Bool, ◌&&◌, cond, ℕ, ◌-◌, ◌*◌, length, None}
+use Rattle.window.specs.Words.{Key, Main}
 use Rattle.gap.specs.Rules.Sequence.{zeros}
 use Rattle.gap.specs.Rules.Doc.{Doc, content}
 use Rattle.gap.specs.Tables.Written.{marked}
@@ -18,7 +18,7 @@ small = 16
 abbrev pub standing_bytes : ℕ → Doc → Edited
 standing_bytes T d =
     record {
-      reply = unedited 0 (lengths (sizes (length d.l) (length d.r) 0 0) (sizes 0 0 0 0) 0 0 0 Main 0 0 Unmarked);
+      reply = unedited 0 (lengths (sizes (length d.l) (length d.r) 0 0) (sizes 0 0 0 0) 0 0 0 Main 0 0 None);
       stores =
           record { text = d.l ++ (zeros (T - length (content d)) ++ d.r); recall = zeros T; held = zeros T; side = zeros (4 * small) };
     }

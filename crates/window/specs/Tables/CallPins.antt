@@ -1,7 +1,7 @@
 -- What document 01 and request M-101 say of opening, refusals and sessions, on records and stores of any kind.
 use Prim.Native.String.{String}
-use Rattle.std.specs.Prelude.{replicate, List, [], ◌∷◌, ◌++◌, Bool, false, ◌&&◌, ℕ, ◌-◌, ◌*◌, eqb, length}
-use Rattle.window.specs.Words.{Key, Insert, Recall, Quote, Mark, Cut, Paste, Main, Quoted, Marking, Unmarked, At, Lengths, Session}
+use Rattle.std.specs.Prelude.{replicate, List, [], ◌∷◌, ◌++◌, Bool, false, ◌&&◌, ℕ, ◌-◌, ◌*◌, eqb, length, Option, Some, None}
+use Rattle.window.specs.Words.{Key, Insert, Recall, Quote, Mark, Cut, Paste, Main, Quoted, Lengths, Session}
 use Rattle.gap.specs.Rules.Sequence.{same_bytes, zeros}
 use Rattle.gap.specs.Rules.Strings.{bytes}
 use Rattle.gap.specs.Tables.Sentence.{Sentence, sentence}
@@ -21,7 +21,7 @@ abbrev pub record_in : ℕ → ℕ → ℕ → ℕ → Lengths → Session
 record_in r c H W n = record { lengths = n; frame = record { r = r; c = c; h = H; w = W } }
 
 abbrev pub nothing : Lengths
-nothing = lengths (sizes 0 0 0 0) (sizes 0 0 0 0) 0 0 0 Main 0 0 Unmarked
+nothing = lengths (sizes 0 0 0 0) (sizes 0 0 0 0) 0 0 0 Main 0 0 None
 
 -- Opening and a key both answer this code: H and W, then the lengths of text, recall, held, side and screen.
 abbrev pub both : ℕ → ℕ → ℕ → ℕ → ℕ → ℕ → ℕ → ℕ → Bool
@@ -90,7 +90,7 @@ opening_pins =
     ∷ is_store opened_used.lent.stores.recall "_______"
     ∷ is_store opened_used.lent.stores.held "_______"
     ∷ same_bytes opened_used.lent.stores.side (zeros (4 * quarter))
-    ∷ are_lengths opened_used.session.lengths (lengths (sizes 0 4 0 0) (sizes 0 0 0 0) 0 0 0 Main 0 0 Unmarked)
+    ∷ are_lengths opened_used.session.lengths (lengths (sizes 0 4 0 0) (sizes 0 0 0 0) 0 0 0 Main 0 0 None)
     ∷ [])
     ∷ sentence "it sets r = c = 0, paints the screen and names rows 1 to H"
     (same_bytes (opened_used.session.frame.r ∷ opened_used.session.frame.c ∷ opened_used.session.frame.h ∷ opened_used.session.frame.w ∷ [])
@@ -111,7 +111,7 @@ abbrev pub lines_text : List ℕ
 lines_text = stored "x\nab__c\ny"
 
 abbrev pub lines_in : ℕ → ℕ → Session
-lines_in r c = record_in r c 2 3 (lengths (sizes 4 3 0 0) (sizes 0 0 0 0) 0 0 0 Main 0 0 Unmarked)
+lines_in r c = record_in r c 2 3 (lengths (sizes 4 3 0 0) (sizes 0 0 0 0) 0 0 0 Main 0 0 None)
 
 abbrev pub lines_holding : List ℕ → List ℕ → Lent
 lines_holding held screen = record { stores = record { text = lines_text; recall = zeros 9; held = held; side = zeros (4 * quarter) }; screen = screen }
@@ -130,7 +130,7 @@ names_rows screen first last =
 
 -- A quotation of so many letters in QUOTED, with a recall text of as many.
 abbrev pub quoted_in : ℕ → Session
-quoted_in n = record_in 0 0 2 1 (lengths (sizes 0 0 0 0) (sizes 0 n 0 0) 0 0 0 Quoted 0 0 (At 0))
+quoted_in n = record_in 0 0 2 1 (lengths (sizes 0 0 0 0) (sizes 0 n 0 0) 0 0 0 Quoted 0 0 (Some 0))
 
 abbrev pub quoted_lent : ℕ → Lent
 quoted_lent n =
@@ -143,7 +143,7 @@ abbrev pub quotes : ℕ → Key → ℕ → Bool
 quotes n k code = answers code 0 (keyed (quoted_in n) k (quoted_lent n))
 
 -- The same text with a held pair of so many bytes and a mark: RECALL changes nothing of it where it is accepted.
-abbrev pub holds : String → ℕ → ℕ → Marking → ℕ → Bool
+abbrev pub holds : String → ℕ → ℕ → Option ℕ → ℕ → Bool
 holds held hl hr mark code =
     answers code 0
     (keyed (record_in 0 0 2 3 (lengths (sizes 4 3 0 0) (sizes 0 0 0 0) 0 0 0 Main hl hr mark)) Recall (lines_holding (stored held) (zeros 6)))
@@ -167,19 +167,19 @@ call_pins =
     ∷ answers 5 0 (keyed (lines_in 0 0) (Insert 9) (lines_lent (zeros 6)))
     ∷ [])
     ∷ sentence "SESSION: each part of the record and of the stores is looked at"
-    (answers 4 0 (keyed (record_in 0 0 2 3 (lengths (sizes 4 3 0 0) (sizes 0 0 0 0) 0 0 1 Main 0 0 Unmarked)) Recall (lines_lent (zeros 6)))
-    ∷ answers 4 0 (keyed (record_in 0 0 2 3 (lengths (sizes 4 2 0 0) (sizes 0 0 0 0) 0 0 0 Main 0 0 Unmarked)) Recall (lines_lent (zeros 6)))
+    (answers 4 0 (keyed (record_in 0 0 2 3 (lengths (sizes 4 3 0 0) (sizes 0 0 0 0) 0 0 1 Main 0 0 None)) Recall (lines_lent (zeros 6)))
+    ∷ answers 4 0 (keyed (record_in 0 0 2 3 (lengths (sizes 4 2 0 0) (sizes 0 0 0 0) 0 0 0 Main 0 0 None)) Recall (lines_lent (zeros 6)))
     ∷ [])
     ∷ sentence "a session needs the mark within the document, its end included, and the held pair under the recall pair's rule; else SESSION"
-    (holds "_________" 0 0 (At 0) 0
-    ∷ holds "_________" 0 0 (At 7) 0
-    ∷ holds "_________" 0 0 (At 8) 4
-    ∷ holds "ab_______" 2 0 Unmarked 0
-    ∷ holds "ab_______" 0 2 (At 3) 0
-    ∷ holds "ab_______" 1 1 Unmarked 4
-    ∷ holds "ab_______" 1 0 Unmarked 4
-    ∷ holds "abcdefghi" 10 0 Unmarked 4
-    ∷ holds "a\t_______" 2 0 Unmarked 4
+    (holds "_________" 0 0 (Some 0) 0
+    ∷ holds "_________" 0 0 (Some 7) 0
+    ∷ holds "_________" 0 0 (Some 8) 4
+    ∷ holds "ab_______" 2 0 None 0
+    ∷ holds "ab_______" 0 2 (Some 3) 0
+    ∷ holds "ab_______" 1 1 None 4
+    ∷ holds "ab_______" 1 0 None 4
+    ∷ holds "abcdefghi" 10 0 None 4
+    ∷ holds "a\t_______" 2 0 None 4
     ∷ [])
     ∷ sentence "the named rows are those at which the lent screen differed, whatever it showed"
     (names_rows "x  abc" 0 0 ∷ names_rows "x. abc" 1 1 ∷ names_rows "x  .bc" 2 2 ∷ names_rows "x ..bc" 1 2 ∷ [])

@@ -1,6 +1,6 @@
 -- What request M-109 says of the conversion's refusals, on a session that needs little: one row and one column, and no text at all.
-use Rattle.std.specs.Prelude.{List, [], ◌∷◌, Bool, ℕ, eqb}
-use Rattle.window.specs.Words.{Main, Quoted, Mode, Unmarked, Lengths}
+use Rattle.std.specs.Prelude.{List, [], ◌∷◌, Bool, ℕ, eqb, None}
+use Rattle.window.specs.Words.{Main, Quoted, Mode, Lengths}
 use Rattle.gap.specs.Rules.Sequence.{zeros}
 use Rattle.gap.specs.Tables.Sentence.{Sentence, sentence}
 use Rattle.editor.specs.Rules.Bytes.{Stores}
@@ -21,7 +21,7 @@ abbrev pub record_gives : ℕ → ℕ → Lengths → ℕ → Bool
 record_gives r c n code = eqb (converted (record_in r c 1 1 n) (olds 1 1 1 1024) (zeros 4096)).answer.code code
 
 abbrev pub quoted_of : ℕ → Mode → Lengths
-quoted_of n mode = lengths (sizes 0 0 0 0) (sizes 0 n 0 0) 0 0 0 mode 0 0 Unmarked
+quoted_of n mode = lengths (sizes 0 0 0 0) (sizes 0 n 0 0) 0 0 0 mode 0 0 None
 
 abbrev pub convert_pins : List (Sentence Bool)
 convert_pins =

@@ -1,5 +1,5 @@
 -- How the promises of this layer's functions speak: spots, texts as they are lent, and the outcome of a call as one value.
-use Rattle.std.specs.Prelude.{◌≡◌, ◌≤◌, ◌<◌, List, Bool, ◌&&◌, cond, ℕ, ◌+◌, ◌*◌, true, leb, ltb, length, take}
+use Rattle.std.specs.Prelude.{◌≡◌, ◌≤◌, ◌<◌, List, Bool, ◌&&◌, cond, ℕ, ◌+◌, ◌*◌, true, leb, ltb, length, take, Option, Some, None}
 use Rattle.window.specs.Words.{Lengths, Frame, Session}
 use Rattle.gap.specs.Rules.Doc.{Doc}
 use Rattle.gap.specs.Rules.Lines.{newlines}
@@ -8,8 +8,6 @@ use Rattle.editor.specs.declared.EditorReply.{EditorReply}
 use Rattle.editor.specs.Rules.Plain.{Plain, Did}
 use Rattle.editor.specs.Rules.Bytes.{Stores, quarter, quarter_of, plain_of}
 use Rattle.editor.specs.Wording.Promise.{Sound, stores}
-use Rattle.window.specs.declared.SessionTest.{SessionTest}
-use Rattle.window.specs.declared.SessionTest.TheVariants.{Passed, Failed}
 use Rattle.window.specs.declared.Spot.{Spot}
 use Rattle.window.specs.declared.Rows.{Rows}
 use Rattle.window.specs.declared.Reply.{Reply}
@@ -31,8 +29,8 @@ pub record LeftCounted (above l m lines : ℕ) (text : List ℕ) : Type 0 where
   pub cut : m < l → above ≡ newlines_left m text + lines
 
 -- What the session test finds, in quarters of Q bytes.
-abbrev pub session_test : ℕ → Session → Stores → SessionTest
-session_test Q s b = cond (session_in Q s b) (Passed (newlines_left s.lengths.main.l b.text)) Failed
+abbrev pub session_test : ℕ → Session → Stores → Option ℕ
+session_test Q s b = cond (session_in Q s b) (Some (newlines_left s.lengths.main.l b.text)) None
 
 -- Where the cursor of a document stands.
 abbrev pub spot_in : Doc → Spot

@@ -29,6 +29,6 @@ nearest_match-requires c = record { reach = left-reach _ _ _ _ c.requires c.if-m
 
 pub returns : goal.returns
 returns c =
-    left-beyond _ _ _ _ c.requires c.if-m-lt1.false c.if-l-m.false c.match_across-found.ensures c.in-Nowhere.is
+    left-beyond _ _ _ _ c.requires c.if-m-lt1.false c.if-l-m.false c.match_across-found.ensures c.in-None.is
     c.nearest_match.ensures
     ∙ distance-left _ _ _ _ c.requires

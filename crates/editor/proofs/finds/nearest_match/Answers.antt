@@ -17,7 +17,7 @@ returns-in_default c = row-found c.loop-d.invariant.1 32 (omega arith) c.block_m
 
 pub loop-d-preserved : goal.loop-d-preserved
 loop-d-preserved c =
-    let passed = row-none c.loop-d.invariant.1 32 (omega arith) c.block_match-found.ensures c.in-Nowhere.is in
+    let passed = row-none c.loop-d.invariant.1 32 (omega arith) c.block_match-found.ensures c.in-None.is in
     (omega arith, passed)
 
 pub first_match-requires : goal.first_match-requires

@@ -21,7 +21,7 @@ pub returns-then-m-l : goal.returns-then-m-l
 unfolding longest_line
 returns-then-m-l c =
     let left = le-leb _ _ (rw c.holding_sizes-sizes.ensures at c.if-m-l.true) in
-    λ recall side sound. cut-done quarter _ _ sound _ Left _ c.in-At.is (sym (cond-true _ _ left)) (sym (cond-true _ _ left))
+    λ recall side sound. cut-done quarter _ _ sound _ Left _ c.in-Some.is (sym (cond-true _ _ left)) (sym (cond-true _ _ left))
     c.lifted_held.ensures (rw c.holding_sizes-sizes.ensures at c.delete_side.ensures)
 
 pub delete_side-requires-2 : goal.delete_side-requires-2
@@ -31,7 +31,7 @@ delete_side-requires-2 c =
       on_side = rw c.holding_sizes-sizes.ensures c.requires.on_side;
       d_bound = omega (
         arith,
-        position-within _ _ _ c.in-At.is c.requires.mark_value,
+        position-within _ _ _ c.in-Some.is c.requires.mark_value,
         ap (λ m. m.l) c.holding_sizes-sizes.ensures,
         ap (λ m. m.r)
             c.holding_sizes-sizes.ensures,
@@ -42,5 +42,5 @@ pub returns : goal.returns
 unfolding longest_line
 returns c =
     let right = lt-leb _ _ (rw c.holding_sizes-sizes.ensures at c.if-m-l.false) in
-    λ recall side sound. cut-done quarter _ _ sound _ Right _ c.in-At.is (sym (cond-false _ _ right)) (sym (cond-false _ _ right))
+    λ recall side sound. cut-done quarter _ _ sound _ Right _ c.in-Some.is (sym (cond-false _ _ right)) (sym (cond-false _ _ right))
     c.lifted_held-2.ensures (rw c.holding_sizes-sizes.ensures at c.delete_side-2.ensures)

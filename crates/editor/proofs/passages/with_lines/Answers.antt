@@ -6,7 +6,7 @@ pub returns-in_default : goal.returns-in_default
 returns-in_default c = lines-nowhere _ _ c.in_default.is
 
 pub lines_passed-requires : goal.lines_passed-requires
-lines_passed-requires c = record { r_in_bounds = c.requires.r_in_bounds; d_bound = c.requires.in_room _ c.in-Reached.is }
+lines_passed-requires c = record { r_in_bounds = c.requires.r_in_bounds; d_bound = c.requires.in_room _ c.in-Some.is }
 
 pub returns : goal.returns
-returns c = lines-reached _ _ c.in-Reached.is c.lines_passed.ensures
+returns c = lines-reached _ _ c.in-Some.is c.lines_passed.ensures

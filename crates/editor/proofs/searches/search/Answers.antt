@@ -27,10 +27,10 @@ returns-in_default c =
 
 pub move_side-t-requires : goal.move_side-t-requires
 move_side-t-requires c =
-    record { gap = c.requires.document; d_bound = within-room c.args.n.main c.requires.document _ _ c.match_passage.ensures c.in-Reached.is }
+    record { gap = c.requires.document; d_bound = within-room c.args.n.main c.requires.document _ _ c.match_passage.ensures c.in-Some.is }
 
 pub returns : goal.returns
 unfolding quarter
 returns c =
-    λ recall held sound. search-done quarter _ _ sound _ _ _ c.match_passage.ensures c.in-Reached.is _ _ _ _ c.lifted.ensures
+    λ recall held sound. search-done quarter _ _ sound _ _ _ c.match_passage.ensures c.in-Some.is _ _ _ _ c.lifted.ensures
     (c.move_side-t.ensures _ _ (on-side quarter _ _ sound Main))

@@ -1,7 +1,7 @@
 -- `number_of` reads a number where the test of the bytes says that they write one.
+use Rattle.std.proofs.Common.{Some}
 use mathlib.Core.Path.{sym, ap, ◌∙◌}
 use native.Mathlib.Omega.{arith}
-use Rattle.gap.specs.declared.Number.TheVariants.{Read}
 use Rattle.gap.proofs.Laws.Decimals.{number_is, number_read, number-unread}
 use Rattle.gap.proofs.decimals.number_of.Goals as goal
 
@@ -11,7 +11,7 @@ value_of-requires c =
     (omega (arith, is.few, c.requires), is.digits)
 
 pub returns-then-is_number : goal.returns-then-is_number
-returns-then-is_number c = ap Read c.value_of.ensures ∙ number_read _ _ (sym c.is_number.ensures ∙ c.if-is_number.true)
+returns-then-is_number c = ap Some c.value_of.ensures ∙ number_read _ _ (sym c.is_number.ensures ∙ c.if-is_number.true)
 
 pub returns : goal.returns
 returns c = number-unread _ _ (sym c.is_number.ensures ∙ c.if-is_number.false)

@@ -23,8 +23,8 @@ returns-then-text-n c =
 pub slice_bounds-bad_byte-end-2 : goal.slice_bounds-bad_byte-end-2
 slice_bounds-bad_byte-end-2 c = sym (length-take-le _ _ c.if-text-n.false)
 
-pub slice_bounds-long_line-end-in-Nowhere : goal.slice_bounds-long_line-end-in-Nowhere
-slice_bounds-long_line-end-in-Nowhere c = sym (length-take-le _ _ c.if-text-n.false)
+pub slice_bounds-long_line-end-in-None : goal.slice_bounds-long_line-end-in-None
+slice_bounds-long_line-end-in-None c = sym (length-take-le _ _ c.if-text-n.false)
 
 pub open_sound-requires : goal.open_sound-requires
 open_sound-requires c =
@@ -34,24 +34,24 @@ open_sound-requires c =
       n_in_bounds = c.if-text-n.false;
     }
 
-pub returns-in-Reached : goal.returns-in-Reached
-returns-in-Reached c =
+pub returns-in-Some : goal.returns-in-Some
+returns-in-Some c =
     text-refused _ _ _ (lent c.args.text.now c.args.recall.now c.args.held.now c.args.side.now c.args.screen.now) c.tabled_stores.ensures
     (ap not c.if-not-tabled_stores.false) c.if-text-n.false
-    c.bad_byte.ensures _ c.in-Reached.is c.unopened-in-Reached.ensures
+    c.bad_byte.ensures _ c.in-Some.is c.unopened-in-Some.ensures
 
-pub returns-in-Reached-long_line : goal.returns-in-Reached-long_line
+pub returns-in-Some-long_line : goal.returns-in-Some-long_line
 unfolding longest_line
-returns-in-Reached-long_line c =
+returns-in-Some-long_line c =
     line_refused _ _ _ (lent c.args.text.now c.args.recall.now c.args.held.now c.args.side.now c.args.screen.now) c.tabled_stores.ensures
     (ap not c.if-not-tabled_stores.false) c.if-text-n.false
-    c.bad_byte.ensures c.in-Nowhere.is c.long_line.ensures _ c.in-Reached-long_line.is
-    c.unopened-in-Reached-long_line.ensures
+    c.bad_byte.ensures c.in-None.is c.long_line.ensures _ c.in-Some-long_line.is
+    c.unopened-in-Some-long_line.ensures
 
-pub returns-in-Nowhere-long_line : goal.returns-in-Nowhere-long_line
+pub returns-in-None-long_line : goal.returns-in-None-long_line
 unfolding longest_line
-returns-in-Nowhere-long_line c =
+returns-in-None-long_line c =
     c.open_sound.ensures
     ∙ text-accepted _ _ _ (lent c.args.text.now c.args.recall.now c.args.held.now c.args.side.now c.args.screen.now) c.tabled_stores.ensures
     (ap not c.if-not-tabled_stores.false) c.if-text-n.false
-    c.bad_byte.ensures c.in-Nowhere.is c.long_line.ensures c.in-Nowhere-long_line.is
+    c.bad_byte.ensures c.in-None.is c.long_line.ensures c.in-None-long_line.is

@@ -25,13 +25,13 @@ pub press_session-done-requires : goal.press_session-done-requires
 unfolding quarter
 press_session-done-requires c =
     (session-sound c.args.s (lent c.args.text.now c.args.recall.now c.args.held.now c.args.side.now c.args.screen.now)
-    (sym c.tabled_stores.ensures ∙ c.if-not-tabled_stores.false) (tested-session _ _ c.session_test.ensures c.in-Passed.is).0)
+    (sym c.tabled_stores.ensures ∙ c.if-not-tabled_stores.false) (tested-session _ _ c.session_test.ensures c.in-Some.is).0)
 
 pub returns-then-code-gt0 : goal.returns-then-code-gt0
 unfolding quarter
 returns-then-code-gt0 c =
     press-refused c.args.s c.args.k (lent c.args.text.now c.args.recall.now c.args.held.now c.args.side.now c.args.screen.now)
-    (sym c.tabled_stores.ensures ∙ c.if-not-tabled_stores.false) (tested-session _ _ c.session_test.ensures c.in-Passed.is).0 _ _
+    (sym c.tabled_stores.ensures ∙ c.if-not-tabled_stores.false) (tested-session _ _ c.session_test.ensures c.in-Some.is).0 _ _
     c.press_session-done.ensures c.if-code-gt0.true _
     c.turned_down-then-code-gt0.ensures
 
@@ -39,19 +39,19 @@ pub newlines_now-below-requires : goal.newlines_now-below-requires
 unfolding quarter
 newlines_now-below-requires c =
     let known = (press-done c.args.s c.args.k (lent c.args.text.now c.args.recall.now c.args.held.now c.args.side.now c.args.screen.now)
-    (sym c.tabled_stores.ensures ∙ c.if-not-tabled_stores.false) (tested-session _ _ c.session_test.ensures c.in-Passed.is).0 _ _
+    (sym c.tabled_stores.ensures ∙ c.if-not-tabled_stores.false) (tested-session _ _ c.session_test.ensures c.in-Some.is).0 _ _
     c.press_session-done.ensures c.if-code-gt0.false) in
     let texts = texts-held _ _ _ _ _ known.sound in
     record {
       l_in_bounds = omega (arith, texts.document);
-      left_counted = λ other. counted-as (tested-session _ _ c.session_test.ensures c.in-Passed.is).1 (known.left other);
+      left_counted = λ other. counted-as (tested-session _ _ c.session_test.ensures c.in-Some.is).1 (known.left other);
     }
 
 pub show-requires : goal.show-requires
 unfolding quarter
 show-requires c =
     let known = (press-done c.args.s c.args.k (lent c.args.text.now c.args.recall.now c.args.held.now c.args.side.now c.args.screen.now)
-    (sym c.tabled_stores.ensures ∙ c.if-not-tabled_stores.false) (tested-session _ _ c.session_test.ensures c.in-Passed.is).0 _ _
+    (sym c.tabled_stores.ensures ∙ c.if-not-tabled_stores.false) (tested-session _ _ c.session_test.ensures c.in-Some.is).0 _ _
     c.press_session-done.ensures c.if-code-gt0.false) in
     let facts = tabled-facts _ _ _ known.fit in record {
       texts = texts-held _ _ _ _ _ known.sound;
@@ -75,6 +75,6 @@ pub returns : goal.returns
 unfolding quarter
 returns c =
     let known = (press-done c.args.s c.args.k (lent c.args.text.now c.args.recall.now c.args.held.now c.args.side.now c.args.screen.now)
-    (sym c.tabled_stores.ensures ∙ c.if-not-tabled_stores.false) (tested-session _ _ c.session_test.ensures c.in-Passed.is).0 _ _
+    (sym c.tabled_stores.ensures ∙ c.if-not-tabled_stores.false) (tested-session _ _ c.session_test.ensures c.in-Some.is).0 _ _
     c.press_session-done.ensures c.if-code-gt0.false) in
     c.show.ensures _ _ known.sound known.fit ∙ known.shows

@@ -24,12 +24,12 @@ pub lengthen-requires : goal.lengthen-requires
 unfolding old_quarter
 lengthen-requires c =
     let both = lengthen-asked _ _ _ (sym c.convertible_stores.ensures ∙ c.if-not-convertible_stores.false)
-    (tested-so _ _ _ c.session_test.ensures c.in-Passed.is).0 in
+    (tested-so _ _ _ c.session_test.ensures c.in-Some.is).0 in
     record { len = both.0; r_bound = both.1 }
 
 pub returns : goal.returns
 unfolding old_quarter
 returns c =
     lengthened-done _ _ _ (sym c.convertible_stores.ensures ∙ c.if-not-convertible_stores.false)
-    (tested-so _ _ _ c.session_test.ensures c.in-Passed.is).0 c.answered-2.ensures
+    (tested-so _ _ _ c.session_test.ensures c.in-Some.is).0 c.answered-2.ensures
     c.lengthen.ensures

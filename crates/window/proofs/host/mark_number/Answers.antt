@@ -2,6 +2,6 @@
 use Rattle.window.specs.Rules.Host.{no_mark}
 use Rattle.window.proofs.host.mark_number.Goals as goal
 
-pub returns-in-Unmarked : goal.returns-in-Unmarked
+pub returns-in-None : goal.returns-in-None
 unfolding no_mark
-returns-in-Unmarked c = rw c.in-Unmarked.is
+returns-in-None c = rw c.in-None.is

@@ -20,4 +20,4 @@ returns-in_default c =
 pub returns : goal.returns
 returns c =
     text-refused _ _ _ _ _ _ _ _ c.is_sendable.ensures (ap not c.if-not-is_sendable.false) c.bad_cell.ensures
-    _ c.in-Reached.is c.unsent-2.ensures
+    _ c.in-Some.is c.unsent-2.ensures
