@@ -9,8 +9,8 @@ ghost use Rattle.gap.specs.Rules.Layout.{ungap};
 ghost use Rattle.editor.specs.Rules.Keys.{matches};
 ghost use Rattle.editor.specs.Wording.Searches.{lowest, match_away, match_left, Reach, likely_at, Telling};
 
-use gap::compare::{run_begins, same_run};
 use gap::Direction;
+use gap::compare::{run_begins, same_run};
 
 // Two runs, the second behind the first, have the pattern at their front: each has its part of it.
 fn runs_begin(x: &[u8], y: &[u8], pattern: &[u8]) -> bool
@@ -114,7 +114,14 @@ fn match_away(way: Direction, t: &[u8], d: usize, pattern: &[u8], k: usize) -> b
 }
 
 // The nearest match that begins from `from` on and below `to` bytes away, looked for place by place.
-fn first_match(way: Direction, t: &[u8], from: usize, to: usize, pattern: &[u8], k: usize) -> Option<usize>
+fn first_match(
+    way: Direction,
+    t: &[u8],
+    from: usize,
+    to: usize,
+    pattern: &[u8],
+    k: usize,
+) -> Option<usize>
     requires reach { Reach way pattern.now t.now from to }
     requires k_in_bounds { k < length pattern.now }
     ensures { result ≡ nearest (match_away way pattern.now t.now) (to - from) from }

@@ -11,10 +11,10 @@ use crate::refusals::KEY;
 use crate::searches::{find_key, replace_key};
 use crate::sides::on_side;
 use crate::{Action, Edit, EditorReply, Key, LONGEST_LINE, Lengths, Mode, Place};
+use gap::Direction;
 use gap::runs::{copy_at, copy_front, hold, vacate};
 use gap::sound::is_allowed;
 use gap::texts::{drop_right, hand_over, place_pair};
-use gap::Direction;
 
 // ---- Which keys are sound
 

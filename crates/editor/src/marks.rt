@@ -10,7 +10,7 @@ ghost use Rattle.editor.specs.Wording.Marks.{in_document, coming, going, exchang
 
 use crate::records::{QUIET, RANG, edited, holding_sizes, lifted_held, marked_at};
 use crate::sides::{delete_side, recall_side};
-use crate::{Action, EditorReply, Exchange, Key, LONGEST_LINE, Lengths, Mode, Report};
+use crate::{Action, EditorReply, Exchange, Key, LONGEST_LINE, Lengths, Mode, Passage, Report};
 use gap::Direction;
 
 // ---- The three keys
@@ -36,17 +36,19 @@ pub fn cut_key(n: Lengths, text: &mut [u8], held: &mut [u8]) -> EditorReply
     let sizes = holding_sizes(n);
     let l = sizes.l;
     if m <= l {
-        return lifted_held(
-            n,
-            None,
-            delete_side(LONGEST_LINE, Direction::Left, l - m, 0, sizes, text, held),
-        );
+        let before = Passage {
+            steps: l - m,
+            lines: 0,
+        };
+        let t = delete_side(LONGEST_LINE, Direction::Left, before, sizes, text, held);
+        return lifted_held(n, None, t);
     }
-    lifted_held(
-        n,
-        None,
-        delete_side(LONGEST_LINE, Direction::Right, m - l, 0, sizes, text, held),
-    )
+    let behind = Passage {
+        steps: m - l,
+        lines: 0,
+    };
+    let t = delete_side(LONGEST_LINE, Direction::Right, behind, sizes, text, held);
+    lifted_held(n, None, t)
 }
 
 // PASTE: the held pair goes in as RECALL puts the recall pair in.

@@ -11,8 +11,8 @@ ghost use Rattle.editor.specs.Wording.Promise.{room_of, InRoom};
 use crate::finds::match_distance;
 use crate::places::place_distance;
 use crate::{Passage, Place};
-use gap::lines::count_newlines;
 use gap::Direction;
+use gap::lines::count_newlines;
 
 // The newlines among the d bytes that a move would cross.
 fn lines_passed(way: Direction, d: usize, s: &[u8], l: usize, r: usize) -> usize
@@ -34,19 +34,20 @@ fn lines_passed(way: Direction, d: usize, s: &[u8], l: usize, r: usize) -> usize
 }
 
 // A distance with the newlines on the way.
-fn with_lines(found: Option<usize>, way: Direction, s: &[u8], l: usize, r: usize) -> Passage
+fn with_lines(found: Option<usize>, way: Direction, s: &[u8], l: usize, r: usize) -> Option<Passage>
     requires r_in_bounds { l + r ≤ length s.now }
     requires in_room { InRoom found way l r }
     ensures { result ≡ with_lines way (ungap l r s.now) found }
 {
-    let Some(d) = found else {
-        return Passage::Nowhere;
-    };
-    Passage::Reached(d, lines_passed(way, d, s, l, r))
+    let steps = found?;
+    Some(Passage {
+        steps,
+        lines: lines_passed(way, steps, s, l, r),
+    })
 }
 
 // To a place.
-pub fn place_passage(place: Place, way: Direction, s: &[u8], l: usize, r: usize) -> Passage
+pub fn place_passage(place: Place, way: Direction, s: &[u8], l: usize, r: usize) -> Option<Passage>
     requires { l + r ≤ length s.now }
     ensures { result ≡ passage_to way (is_at place way) (ungap l r s.now) }
 {
@@ -54,7 +55,13 @@ pub fn place_passage(place: Place, way: Direction, s: &[u8], l: usize, r: usize)
 }
 
 // To the nearest match.
-pub fn match_passage(way: Direction, s: &[u8], l: usize, r: usize, pattern: &[u8]) -> Passage
+pub fn match_passage(
+    way: Direction,
+    s: &[u8],
+    l: usize,
+    r: usize,
+    pattern: &[u8],
+) -> Option<Passage>
     requires { l + r ≤ length s.now }
     ensures { result ≡ passage_to way (matches pattern.now) (ungap l r s.now) }
 {

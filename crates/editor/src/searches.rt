@@ -14,7 +14,7 @@ use crate::records::{
 };
 use crate::refusals::{FULL, LINE};
 use crate::sides::move_side;
-use crate::{EditorReply, LONGEST_LINE, Lengths, Mode, Passage, QUARTER};
+use crate::{EditorReply, LONGEST_LINE, Lengths, Mode, QUARTER};
 use gap::Direction;
 use gap::line_limits::runs_fit;
 use gap::runs::hold;
@@ -27,16 +27,10 @@ fn search(way: Direction, n: Lengths, text: &mut [u8], side: &[u8]) -> EditorRep
 {
     let main = n.main;
     let end = 2 * QUARTER + n.pl;
-    let Passage::Reached(d, lines) = match_passage(
-        way,
-        text,
-        main.l,
-        main.r,
-        &side[2 * QUARTER..end],
-    ) else {
+    let Some(passage) = match_passage(way, text, main.l, main.r, &side[2 * QUARTER..end]) else {
         return edited(RANG, n);
     };
-    let t = move_side(way, d, lines, main, text);
+    let t = move_side(way, passage, main, text);
     lifted(Mode::Main, n, t)
 }
 

@@ -4,7 +4,6 @@ ghost use Rattle.std.specs.Prelude.{◌≡◌, true, ℕ, ◌≤◌, length};
 ghost use Rattle.gap.specs.Rules.Doc.{content, move, times};
 ghost use Rattle.gap.specs.Rules.Layout.{gapped, ungap, IsGap};
 ghost use Rattle.gap.specs.Rules.LineLimits.{lines_fit};
-ghost use Rattle.editor.specs.declared.Passage.TheVariants.{Reached};
 ghost use Rattle.editor.specs.declared.Action.TheVariants.{Move, Delete};
 ghost use Rattle.editor.specs.Rules.Keys.{inserted, carried, function, recalled};
 ghost use Rattle.editor.specs.Wording.Promise.{room_of, OnSide, EditsSide, EditsText, editing};
@@ -50,32 +49,34 @@ pub fn move_cursor(way: Direction, d: usize, l: usize, r: usize, text: &mut [u8]
     }
 }
 
-// A move of d bytes, over so many newlines. The lines stay as they are.
-pub fn move_side(way: Direction, d: usize, lines: usize, n: Sizes, text: &mut [u8]) -> SideReply
+// A move. The lines stay as they are.
+pub fn move_side(way: Direction, passage: Passage, n: Sizes, text: &mut [u8]) -> SideReply
     requires gap { IsGap n.l n.r text.old }
-    requires d_bound { d ≤ room_of way n }
-    ensures { (limit : ℕ) → EditsText limit result n (carried Move way (Reached d lines)) text.old text.new }
+    requires steps_bound { passage.steps ≤ room_of way n }
+    ensures { (limit : ℕ) → EditsText limit result n (carried Move way (Some passage)) text.old text.new }
 {
+    let d = passage.steps;
     let m = moved_by(way, d, n);
     move_cursor(way, d, n.l, n.r, text);
-    done(went(d, lines), m)
+    done(went(d, passage.lines), m)
 }
 
-// The d bytes that a move would cross go over into the recall text.
+// The bytes that a move would cross go over into the recall text.
 pub fn delete_side(
     limit: usize,
     way: Direction,
-    d: usize,
-    lines: usize,
+    passage: Passage,
     n: Sizes,
     text: &mut [u8],
     recall: &mut [u8],
 ) -> SideReply
     requires on_side { OnSide limit n text.old recall.old }
-    requires d_bound { d ≤ room_of way n }
-    ensures { EditsSide limit result n (carried Delete way (Reached d lines)) text.old recall.old
+    requires steps_bound { passage.steps ≤ room_of way n }
+    ensures { EditsSide limit result n (carried Delete way (Some passage)) text.old recall.old
         text.new recall.new }
 {
+    let d = passage.steps;
+    let lines = passage.lines;
     let l = n.l;
     let r = n.r;
     let mut m = n;
@@ -103,25 +104,24 @@ pub fn delete_side(
     }
 }
 
-// A move or deletion of d bytes.
+// A move or deletion.
 fn carry_side(
     limit: usize,
     action: Action,
     way: Direction,
-    d: usize,
-    lines: usize,
+    passage: Passage,
     n: Sizes,
     text: &mut [u8],
     recall: &mut [u8],
 ) -> SideReply
     requires on_side { OnSide limit n text.old recall.old }
-    requires d_bound { d ≤ room_of way n }
-    ensures { EditsSide limit result n (carried action way (Reached d lines)) text.old recall.old
+    requires steps_bound { passage.steps ≤ room_of way n }
+    ensures { EditsSide limit result n (carried action way (Some passage)) text.old recall.old
         text.new recall.new }
 {
     match action {
-        Action::Move => move_side(way, d, lines, n, text),
-        Action::Delete => delete_side(limit, way, d, lines, n, text, recall),
+        Action::Move => move_side(way, passage, n, text),
+        Action::Delete => delete_side(limit, way, passage, n, text, recall),
     }
 }
 
@@ -141,10 +141,10 @@ pub fn function_side(
 {
     let l = n.l;
     let r = n.r;
-    let Passage::Reached(d, lines) = place_passage(place, way, text, l, r) else {
+    let Some(passage) = place_passage(place, way, text, l, r) else {
         return done(RANG, n);
     };
-    carry_side(limit, action, way, d, lines, n, text, recall)
+    carry_side(limit, action, way, passage, n, text, recall)
 }
 
 // The recall pair goes in around the cursor, if it fits.

@@ -160,15 +160,15 @@ module _ (Q : ℕ) (n : Lengths) (b : Stores) (sound : Sound Q n b) where
   -- CUT, once the way to the mark and the bytes between are known.
   pub cut-done : (m : ℕ) (way : Direction) (d : ℕ) → n.mark ≡ Some m → way ≡ way_to m n.main.l → d ≡ far_to m n.main.l
       → {r : EditorReply} {t : SideReply} {text held : List ℕ} → r ≡ held_reply n None t
-      → EditsSide longest_line t (holding_sizes n) (carried Delete way (Some d 0)) b.text b.held text held
+      → EditsSide longest_line t (holding_sizes n) (carried Delete way (Some (record { steps = d; lines = 0 }))) b.text b.held text held
       → record { reply = r; stores = stores text b.recall held b.side } ≡ edited_to Q n b (bounded T Q (cut p))
   unfolding cut_to plain_of
   cut-done m way d at is far {text = text} {held} replied turns =
       let l = length p.main.text.l in
-      let act : Did Side = carried Delete (way_to m l) (Some (far_to m l) 0) (holding p) in
+      let act : Did Side = carried Delete (way_to m l) (Some (record { steps = far_to m l; lines = 0 })) (holding p) in
       let way-so = is ∙ ap (way_to m) (sym left-long) in
       let far-so = far ∙ ap (far_to m) (sym left-long) in
-      let acted : carried Delete way (Some d 0) (holding p) ≡ act = λ i. carried Delete (way-so i) (Some (far-so i) 0) (holding p) in
+      let acted : carried Delete way (Some (record { steps = d; lines = 0 })) (holding p) ≡ act = λ i. carried Delete (way-so i) (Some (record { steps = far-so i; lines = 0 })) (holding p) in
       (λ i. record { reply = replied i; stores = stores text b.recall held b.side })
       ∙ (holding-bounded act None (turns ∙ ap (written longest_line (holding_sizes n) b.text b.held) acted)
       ∙ ap (λ mark. edited_to Q n b (bounded T Q (cut_to mark p))) (sym at))

@@ -67,7 +67,7 @@ unfolding cut_to fits
 cut_fits T Q None p sound = sound-fits T Q p sound
 cut_fits T Q (Some m) p sound =
     let l = length p.main.text.l in
-    let side = carried-sound T (holding p) (holding-sound T Q p sound) Delete (way_to m l) (Some (far_to m l) 0) in
+    let side = carried-sound T (holding p) (holding-sound T Q p sound) Delete (way_to m l) (Some (record { steps = far_to m l; lines = 0 })) in
     and_both (le-leb _ _ (content-fits T _ side.text)) (le-leb _ _ (content-fits Q p.quoted.text sound.quotation))
 
 pub cut-sound : (T Q : ℕ) (mark : Option ℕ) (p : Plain) → SoundTexts T Q p → readable longest_line (cut_to mark p).state ≡ true
@@ -78,7 +78,7 @@ cut-sound T Q (Some m) p sound lines =
     let l = length p.main.text.l in
     marked-sound T Q None _
     (with-holding-sound T Q _ p sound
-    (carried-sound T (holding p) (holding-sound T Q p sound) Delete (way_to m l) (Some (far_to m l) 0)) lines)
+    (carried-sound T (holding p) (holding-sound T Q p sound) Delete (way_to m l) (Some (record { steps = far_to m l; lines = 0 }))) lines)
 
 pub pasted-sound : (T Q : ℕ) (p : Plain) → SoundTexts T Q p → fits T Q (pasted p).state ≡ true → readable longest_line (pasted p).state ≡ true
     → SoundTexts T Q (pasted p).state

@@ -35,6 +35,6 @@ module _ (way : Direction) (doc : Doc) {answer : Option ℕ} where
   unfolding with_lines
   lines-nowhere e = sym (ap (with_lines way doc) e)
 
-  pub lines-reached : {d n : ℕ} → answer ≡ Some d → n ≡ newlines (passed way d doc) → Some d n ≡ with_lines way doc answer
+  pub lines-reached : {d n : ℕ} → answer ≡ Some d → n ≡ newlines (passed way d doc) → Some (record { steps = d; lines = n }) ≡ with_lines way doc answer
   unfolding with_lines
-  lines-reached {d = d} e counted = ap (Some d) counted ∙ sym (ap (with_lines way doc) e)
+  lines-reached {d = d} e counted = ap (λ n. Some (record { steps = d; lines = n })) counted ∙ sym (ap (with_lines way doc) e)

@@ -107,17 +107,17 @@ unfolding distance
 distance-in-room way place l r text fits e d told =
     omega (arith, room-held way l r text fits, (reached-least _ _ 1 d (sym e ∙ told)).within)
 
-passage-distance : (way : Direction) (doc : Doc) (answer : Option ℕ) {d lines : ℕ} → with_lines way doc answer ≡ Some (record { steps = d; lines = lines }) → answer ≡ Some d
+passage-distance : (way : Direction) (doc : Doc) (answer : Option ℕ) {passage : Passage} → with_lines way doc answer ≡ Some passage → answer ≡ Some passage.steps
 unfolding with_lines
 passage-distance way doc (Some n) e = cc
 passage-distance way doc None e = cc
 
-pub within-room : (n : Sizes) {text : List ℕ} → IsGap n.l n.r text → (way : Direction) (place : Doc → Bool) {answer : Option Passage} {d lines : ℕ}
-    → answer ≡ passage_to way place (ungap n.l n.r text) → answer ≡ Some (record { steps = d; lines = lines }) → d ≤ room_of way n
+pub within-room : (n : Sizes) {text : List ℕ} → IsGap n.l n.r text → (way : Direction) (place : Doc → Bool) {answer : Option Passage} {passage : Passage}
+    → answer ≡ passage_to way place (ungap n.l n.r text) → answer ≡ Some passage → passage.steps ≤ room_of way n
 unfolding passage_to
-within-room n gap way place {d = d} e told =
+within-room n gap way place {passage = passage} e told =
     let near = passage-distance way _ (distance way place (ungap n.l n.r _)) (sym e ∙ told) in
-    rw (room_of_lem way n) (distance-in-room way place n.l n.r _ gap.fits refl d near)
+    rw (room_of_lem way n) (distance-in-room way place n.l n.r _ gap.fits refl passage.steps near)
 
 -- Two stores that hold a side.
 module _ {limit : ℕ} {n : Sizes} {text recall : List ℕ} (on : OnSide limit n text recall) where

@@ -190,7 +190,7 @@ module _ (T Q : ℕ) (p : Plain) (sound : SoundTexts T Q p) where
 
   -- A deletion in the document is refused as LINE exactly where the line that it joins is too long.
   pub delete-line : (way : Direction) (place : Place) (d crossed : ℕ) → p.mode ≡ Main → sound_function Delete way place ≡ true
-      → passage_to way (is_at place way) p.main.text ≡ Some d crossed
+      → passage_to way (is_at place way) p.main.text ≡ Some (record { steps = d; lines = crossed })
       → let left = times (delete way) d p.main.text in
       (key T Q (Function Delete way place) p ≡ refused LINE) ↔ (longest_line < since left.l + length (line_of left.r))
   unfolding acted sound_key function carried

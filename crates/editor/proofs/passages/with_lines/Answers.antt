@@ -1,12 +1,13 @@
 -- `with_lines`: where a distance was found, the newlines on the way are counted.
+use mathlib.Core.Path.{◌∙◌}
 use Rattle.editor.proofs.Laws.Passages.{lines-nowhere, lines-reached}
 use Rattle.editor.proofs.passages.with_lines.Goals as goal
 
-pub returns-in_default : goal.returns-in_default
-returns-in_default c = lines-nowhere _ _ c.in_default.is
+pub returns-in_err-steps : goal.returns-in_err-steps
+returns-in_err-steps c = c.from_residual.ensures ∙ lines-nowhere _ _ c.in_err-steps.was
 
 pub lines_passed-requires : goal.lines_passed-requires
-lines_passed-requires c = record { r_in_bounds = c.requires.r_in_bounds; d_bound = c.requires.in_room _ c.in-Some.is }
+lines_passed-requires c = record { r_in_bounds = c.requires.r_in_bounds; d_bound = c.requires.in_room _ c.in_ok-steps.was }
 
 pub returns : goal.returns
-returns c = lines-reached _ _ c.in-Some.is c.lines_passed.ensures
+returns c = lines-reached _ _ c.in_ok-steps.was c.lines_passed.ensures

@@ -27,7 +27,7 @@ returns-in_default c =
 
 pub move_side-t-requires : goal.move_side-t-requires
 move_side-t-requires c =
-    record { gap = c.requires.document; d_bound = within-room c.args.n.main c.requires.document _ _ c.match_passage.ensures c.in-Some.is }
+    record { gap = c.requires.document; steps_bound = within-room c.args.n.main c.requires.document _ _ c.match_passage.ensures c.in-Some.is }
 
 pub returns : goal.returns
 unfolding quarter

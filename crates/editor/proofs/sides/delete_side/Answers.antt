@@ -6,57 +6,57 @@ use Rattle.editor.proofs.Laws.SideEdits.{kept-halves, removed-fits, deleted, del
 use Rattle.editor.proofs.sides.delete_side.Goals as goal
 
 pub overflow_sub-l : goal.overflow_sub-l
-overflow_sub-l c = rw c.in-Left.is at c.requires.d_bound
+overflow_sub-l c = rw c.in-Left.is at c.requires.steps_bound
 
 pub join_fits-requires : goal.join_fits-requires
 join_fits-requires c =
-    let enough = rw c.in-Left.is at c.requires.d_bound in
+    let enough = rw c.in-Left.is at c.requires.steps_bound in
     record { r_in_bounds = omega (arith, c.requires.on_side.gap.fits, enough); halves_fit = kept-halves c.requires.on_side Left _ enough }
 
 pub returns-then-not-join_fits : goal.returns-then-not-join_fits
 returns-then-not-join_fits c =
     rw c.in-Left.is
-    (deleted-long c.requires.on_side Left _ _ c.refused.ensures (rw c.in-Left.is at c.requires.d_bound)
+    (deleted-long c.requires.on_side Left _ _ c.refused.ensures (rw c.in-Left.is at c.requires.steps_bound)
     (sym c.join_fits.ensures ∙ c.if-not-join_fits.true))
 
 pub delete_left-requires : goal.delete_left-requires
 delete_left-requires c =
-    let enough = rw c.in-Left.is at c.requires.d_bound in
-    record { gap = c.requires.on_side.gap; d_le_l = (enough, removed-fits c.requires.on_side c.args.way c.requires.d_bound) }
+    let enough = rw c.in-Left.is at c.requires.steps_bound in
+    record { gap = c.requires.on_side.gap; d_le_l = (enough, removed-fits c.requires.on_side c.args.way c.requires.steps_bound) }
 
 pub overflow_sub-m : goal.overflow_sub-m
-overflow_sub-m c = rw c.in-Left.is at c.requires.d_bound
+overflow_sub-m c = rw c.in-Left.is at c.requires.steps_bound
 
 pub overflow_sub-r : goal.overflow_sub-r
-overflow_sub-r c = rw c.in-Right.is at c.requires.d_bound
+overflow_sub-r c = rw c.in-Right.is at c.requires.steps_bound
 
 pub join_fits-requires-in-Right : goal.join_fits-requires-in-Right
 join_fits-requires-in-Right c =
-    let enough = rw c.in-Right.is at c.requires.d_bound in
+    let enough = rw c.in-Right.is at c.requires.steps_bound in
     record { r_in_bounds = omega (arith, c.requires.on_side.gap.fits, enough); halves_fit = kept-halves c.requires.on_side Right _ enough }
 
 pub returns-then-not-join_fits-2 : goal.returns-then-not-join_fits-2
 returns-then-not-join_fits-2 c =
     rw c.in-Right.is
-    (deleted-long c.requires.on_side Right _ _ c.refused-then-not-join_fits-2.ensures (rw c.in-Right.is at c.requires.d_bound)
+    (deleted-long c.requires.on_side Right _ _ c.refused-then-not-join_fits-2.ensures (rw c.in-Right.is at c.requires.steps_bound)
     (sym c.join_fits-in-Right.ensures ∙ c.if-not-join_fits-2.true))
 
 pub delete_right-requires : goal.delete_right-requires
 delete_right-requires c =
-    let enough = rw c.in-Right.is at c.requires.d_bound in
-    record { gap = c.requires.on_side.gap; d_le_r = (enough, removed-fits c.requires.on_side c.args.way c.requires.d_bound) }
+    let enough = rw c.in-Right.is at c.requires.steps_bound in
+    record { gap = c.requires.on_side.gap; d_le_r = (enough, removed-fits c.requires.on_side c.args.way c.requires.steps_bound) }
 
 pub overflow_sub-m-in-Right : goal.overflow_sub-m-in-Right
-overflow_sub-m-in-Right c = rw c.in-Right.is at c.requires.d_bound
+overflow_sub-m-in-Right c = rw c.in-Right.is at c.requires.steps_bound
 
 pub returns-else-not-join_fits : goal.returns-else-not-join_fits
 returns-else-not-join_fits c =
     rw c.in-Left.is
-    (deleted c.requires.on_side Left c.done.ensures c.went.ensures (rw c.in-Left.is at c.requires.d_bound)
+    (deleted c.requires.on_side Left c.done.ensures c.went.ensures (rw c.in-Left.is at c.requires.steps_bound)
     (sym c.join_fits.ensures ∙ c.if-not-join_fits.false) refl c.delete_left.ensures.s_after c.delete_left.ensures.pair_after)
 
 pub returns-else-not-join_fits-2 : goal.returns-else-not-join_fits-2
 returns-else-not-join_fits-2 c =
     rw c.in-Right.is
-    (deleted c.requires.on_side Right c.done-in-Right.ensures c.went-in-Right.ensures (rw c.in-Right.is at c.requires.d_bound)
+    (deleted c.requires.on_side Right c.done-in-Right.ensures c.went-in-Right.ensures (rw c.in-Right.is at c.requires.steps_bound)
     (sym c.join_fits-in-Right.ensures ∙ c.if-not-join_fits-2.false) refl c.delete_right.ensures.s_after c.delete_right.ensures.pair_after)

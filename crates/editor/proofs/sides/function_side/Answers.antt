@@ -9,7 +9,7 @@ returns-in_default c =
     (not_carried c.requires _ _ c.done.ensures refl)
 
 pub carry_side-requires : goal.carry_side-requires
-carry_side-requires c = record { on_side = c.requires; d_bound = within-room _ c.requires.gap _ _ c.place_passage.ensures c.in-Some.is }
+carry_side-requires c = record { on_side = c.requires; steps_bound = within-room _ c.requires.gap _ _ c.place_passage.ensures c.in-Some.is }
 
 pub returns : goal.returns
 returns c = by-passage c.requires _ _ _ c.place_passage.ensures c.in-Some.is c.carry_side.ensures

@@ -4,10 +4,10 @@ use Rattle.editor.proofs.Laws.SideEdits.{room_of_lem, moved}
 use Rattle.editor.proofs.sides.move_side.Goals as goal
 
 pub moved_by-m-requires : goal.moved_by-m-requires
-moved_by-m-requires c = record { d_bound = c.requires.d_bound; r_bound = omega (arith, c.requires.gap.fits) }
+moved_by-m-requires c = record { d_bound = c.requires.steps_bound; r_bound = omega (arith, c.requires.gap.fits) }
 
 pub move_cursor-requires : goal.move_cursor-requires
-move_cursor-requires c = record { gap = c.requires.gap; d_bound = rw room_of_lem at c.requires.d_bound }
+move_cursor-requires c = record { gap = c.requires.gap; d_bound = rw room_of_lem at c.requires.steps_bound }
 
 pub returns : goal.returns
-returns c = λ limit recall on. moved on _ c.done.ensures c.went.ensures c.requires.d_bound c.moved_by-m.ensures c.move_cursor.ensures
+returns c = λ limit recall on. moved on _ c.done.ensures c.went.ensures c.requires.steps_bound c.moved_by-m.ensures c.move_cursor.ensures
