@@ -18,6 +18,7 @@ pub mod Holding
 pub mod MatchTests
 pub mod MatchScans
 pub mod Quotation
+pub mod Refusals
 pub mod Replies
 pub mod PlaceScans
 pub mod HandedOver

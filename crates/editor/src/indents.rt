@@ -5,42 +5,51 @@ ghost use Rattle.gap.specs.Rules.Indents.{spaces};
 ghost use Rattle.gap.specs.Rules.Layout.{ungap, IsGap};
 ghost use Rattle.gap.specs.Rules.LineLimits.{lines_fit};
 ghost use Rattle.editor.specs.Rules.Indents.{inserted_run, newlined, tabbed};
-ghost use Rattle.editor.specs.Wording.Promise.{EditsText};
+ghost use Rattle.editor.specs.Wording.Promise.{EditsText, side_reply};
 
-use crate::records::{done, refused, went};
-use crate::refusals::{FULL, LINE};
+use crate::records::went;
+use crate::refusals::Refusal;
 use crate::splices::run_fits;
-use crate::{SideReply, Sizes};
+use crate::{SideDone, Sizes};
 use gap::indents::line_indent;
 use gap::lines::since_newline;
 use gap::texts::insert_spaced;
 
 // A byte and k spaces behind it go in, all of them or none.
-fn spaced_side(limit: usize, b: u8, k: usize, n: Sizes, text: &mut [u8]) -> SideReply
+fn spaced_side(
+    limit: usize,
+    b: u8,
+    k: usize,
+    n: Sizes,
+    text: &mut [u8],
+) -> Result<SideDone, Refusal>
     requires gap { IsGap n.l n.r text.old }
     requires text_value { lines_fit limit (content (ungap n.l n.r text.old)) ≡ true }
-    ensures { EditsText limit result n (inserted_run (b ∷ spaces k)) text.old text.new }
+    ensures { EditsText limit (side_reply n result) n (inserted_run (b ∷ spaces k)) text.old text.new }
 {
     let l = n.l;
     let r = n.r;
     if text.len() - (l + r) <= k {
-        return refused(FULL, n);
+        return Err(Refusal::Full);
     }
     if !run_fits(limit, b, k, text, l, r) {
-        return refused(LINE, n);
+        return Err(Refusal::Line);
     }
     insert_spaced(text, l, r, b, k);
     let run = k + 1;
     let mut m = n;
     m.l = l + run;
-    done(went(run, 0), m)
+    Ok(SideDone {
+        report: went(run, 0),
+        sizes: m,
+    })
 }
 
 // NEWLINE: the leading spaces are counted in what is left of the cursor.
-pub fn newline_side(limit: usize, n: Sizes, text: &mut [u8]) -> SideReply
+pub fn newline_side(limit: usize, n: Sizes, text: &mut [u8]) -> Result<SideDone, Refusal>
     requires gap { IsGap n.l n.r text.old }
     requires text_value { lines_fit limit (content (ungap n.l n.r text.old)) ≡ true }
-    ensures { EditsText limit result n newlined text.old text.new }
+    ensures { EditsText limit (side_reply n result) n newlined text.old text.new }
 {
     let l = n.l;
     let k = line_indent(&text[..l]);
@@ -48,10 +57,10 @@ pub fn newline_side(limit: usize, n: Sizes, text: &mut [u8]) -> SideReply
 }
 
 // TAB: the first space, and the others up to the column.
-pub fn tab_side(limit: usize, n: Sizes, text: &mut [u8]) -> SideReply
+pub fn tab_side(limit: usize, n: Sizes, text: &mut [u8]) -> Result<SideDone, Refusal>
     requires gap { IsGap n.l n.r text.old }
     requires text_value { lines_fit limit (content (ungap n.l n.r text.old)) ≡ true }
-    ensures { EditsText limit result n tabbed text.old text.new }
+    ensures { EditsText limit (side_reply n result) n tabbed text.old text.new }
 {
     let l = n.l;
     let column = since_newline(0, &text[..l]);

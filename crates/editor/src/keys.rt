@@ -2,15 +2,15 @@
 ghost use Rattle.std.specs.Prelude.{◌≡◌, false};
 ghost use Rattle.editor.specs.Rules.Keys.{sound_function, is_main, sound_key, on_side, acted, bounded, key};
 ghost use Rattle.editor.specs.Rules.Bytes.{quarter};
-ghost use Rattle.editor.specs.Wording.Promise.{editing, Sound, stores, Edits, SoundUnheld, EditsUnheld};
+ghost use Rattle.editor.specs.Wording.Promise.{editing, Sound, stores, Edits, SoundUnheld, EditsUnheld, editor_reply};
 
 use crate::marks::{cut_key, followed, mark_key, paste_key};
 use crate::quotations::{edit_quotation, quote_key};
-use crate::records::{lifted, unedited};
-use crate::refusals::KEY;
+use crate::records::lifted;
+use crate::refusals::Refusal;
 use crate::searches::{find_key, replace_key};
 use crate::sides::on_side;
-use crate::{Action, Edit, EditorReply, Key, LONGEST_LINE, Lengths, Mode, Place};
+use crate::{Action, Edit, EditorDone, Key, LONGEST_LINE, Lengths, Mode, Place};
 use gap::Direction;
 use gap::runs::{copy_at, copy_front, hold, vacate};
 use gap::sound::is_allowed;
@@ -73,17 +73,29 @@ pub fn sound_key(mode: Mode, k: Key) -> bool
 // ---- The key call
 
 // A key on the side that the mode names.
-fn edit_key(e: Edit, n: Lengths, text: &mut [u8], recall: &mut [u8], side: &mut [u8]) -> EditorReply
+fn edit_key(
+    e: Edit,
+    n: Lengths,
+    text: &mut [u8],
+    recall: &mut [u8],
+    side: &mut [u8],
+) -> Result<EditorDone, Refusal>
     requires { SoundUnheld n text.old recall.old side.old }
-    ensures { EditsUnheld result n (λ T p. bounded T quarter (on_side (editing e) p)) text.old recall.old side.old
+    ensures { EditsUnheld (editor_reply n result) n (λ T p. bounded T quarter (on_side (editing e) p)) text.old recall.old side.old
         text.new recall.new side.new }
 {
     let mode = n.mode;
     let main = n.main;
     let quoted = n.quoted;
     match mode {
-        Mode::Main => lifted(mode, n, on_side(LONGEST_LINE, e, main, text, recall)),
-        Mode::Quoted => lifted(mode, n, edit_quotation(e, quoted, side)),
+        Mode::Main => {
+            let t = on_side(LONGEST_LINE, e, main, text, recall)?;
+            Ok(lifted(mode, n, t))
+        }
+        Mode::Quoted => {
+            let t = edit_quotation(e, quoted, side)?;
+            Ok(lifted(mode, n, t))
+        }
     }
 }
 
@@ -95,9 +107,9 @@ fn act(
     recall: &mut [u8],
     held: &mut [u8],
     side: &mut [u8],
-) -> EditorReply
+) -> Result<EditorDone, Refusal>
     requires { Sound quarter n (stores text.old recall.old held.old side.old) }
-    ensures { Edits result n (λ T p. bounded T quarter (acted k p))
+    ensures { Edits (editor_reply n result) n (λ T p. bounded T quarter (acted k p))
         (stores text.old recall.old held.old side.old)
         (stores text.new recall.new held.new side.new) }
 {
@@ -111,10 +123,10 @@ fn act(
             side,
         ),
         Key::Recall => edit_key(Edit::Recall, n, text, recall, side),
-        Key::Quote => quote_key(n, side),
-        Key::Find(way) => find_key(way, n, text, side),
+        Key::Quote => Ok(quote_key(n, side)),
+        Key::Find(way) => Ok(find_key(way, n, text, side)),
         Key::Replace => replace_key(n, text, recall, side),
-        Key::Mark => mark_key(n),
+        Key::Mark => Ok(mark_key(n)),
         Key::Cut => cut_key(n, text, held),
         Key::Paste => paste_key(n, text, held),
         Key::Newline => edit_key(Edit::Newline, n, text, recall, side),
@@ -130,20 +142,16 @@ pub fn press_session(
     recall: &mut [u8],
     held: &mut [u8],
     side: &mut [u8],
-) -> EditorReply
+) -> Result<EditorDone, Refusal>
     requires { Sound quarter n (stores text.old recall.old held.old side.old) }
-    ensures { Edits result n (λ T p. key T quarter k p)
+    ensures { Edits (editor_reply n result) n (λ T p. key T quarter k p)
         (stores text.old recall.old held.old side.old)
         (stores text.new recall.new held.new side.new) }
 {
     let mode = n.mode;
     if !sound_key(mode, k) {
-        return unedited(KEY, n);
+        return Err(Refusal::Key);
     }
-    let r = act(n, k, text, recall, held, side);
-    let code = r.code;
-    if code != 0 {
-        return r;
-    }
-    followed(k, n, r)
+    let done = act(n, k, text, recall, held, side)?;
+    Ok(followed(k, n, done))
 }

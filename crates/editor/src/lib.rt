@@ -131,18 +131,16 @@ pub struct Exchange {
     pub come: usize,
 }
 
-// What a key on one side replies: 0 or a refusal's number, its report, and the sizes now.
+// What a key on one side leaves when it is done: its report, and the sizes now. Refused, it moves nothing.
 #[derive(Clone, Copy)]
-pub struct SideReply {
-    pub code: usize,
+pub struct SideDone {
     pub report: Report,
     pub sizes: Sizes,
 }
 
-// What this layer's key call replies: 0 or a refusal's number, its report, and the lengths now.
+// What this layer's key call leaves when it is done: its report, and the lengths now.
 #[derive(Clone, Copy)]
-pub struct EditorReply {
-    pub code: usize,
+pub struct EditorDone {
     pub report: Report,
     pub lengths: Lengths,
 }

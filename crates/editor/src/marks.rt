@@ -5,33 +5,40 @@ ghost use Rattle.editor.specs.Rules.LongLines.{longest_line};
 ghost use Rattle.editor.specs.Rules.Marks.{mark_within};
 ghost use Rattle.editor.specs.Rules.Keys.{marked_here, cut, pasted, bounded};
 ghost use Rattle.editor.specs.Rules.Bytes.{quarter, holding_sizes};
-ghost use Rattle.editor.specs.Wording.Promise.{OnSide, EditsAny, EditsHeld};
+ghost use Rattle.editor.specs.Wording.Promise.{OnSide, EditsAny, EditsHeld, editor_reply, editor_done};
 ghost use Rattle.editor.specs.Wording.Marks.{in_document, coming, going, exchange_of, mark_exchanged, followed_reply, Moderate, Followable};
 
-use crate::records::{QUIET, RANG, edited, holding_sizes, lifted_held, marked_at};
+use crate::records::{QUIET, RANG, holding_sizes, lifted_held, marked_at};
+use crate::refusals::Refusal;
 use crate::sides::{delete_side, recall_side};
-use crate::{Action, EditorReply, Exchange, Key, LONGEST_LINE, Lengths, Mode, Passage, Report};
+use crate::{Action, EditorDone, Exchange, Key, LONGEST_LINE, Lengths, Mode, Passage, Report};
 use gap::Direction;
 
 // ---- The three keys
 
 // MARK: the mark at the cursor.
-pub fn mark_key(n: Lengths) -> EditorReply
-    ensures { EditsAny result n (λ T p. bounded T quarter (marked_here p)) }
+pub fn mark_key(n: Lengths) -> EditorDone
+    ensures { EditsAny (editor_done result) n (λ T p. bounded T quarter (marked_here p)) }
 {
     let main = n.main;
-    edited(QUIET, marked_at(n, Some(main.l)))
+    EditorDone {
+        report: QUIET,
+        lengths: marked_at(n, Some(main.l)),
+    }
 }
 
 // CUT: a deletion of the bytes between cursor and mark, with the held text's store lent for the recall text's.
-pub fn cut_key(n: Lengths, text: &mut [u8], held: &mut [u8]) -> EditorReply
+pub fn cut_key(n: Lengths, text: &mut [u8], held: &mut [u8]) -> Result<EditorDone, Refusal>
     requires on_side { OnSide longest_line (holding_sizes n) text.old held.old }
     requires mark_value { mark_within (n.main.l + n.main.r) n.mark ≡ true }
-    ensures { EditsHeld result n (λ T p. bounded T quarter (cut p)) text.old held.old text.new held.new }
+    ensures { EditsHeld (editor_reply n result) n (λ T p. bounded T quarter (cut p)) text.old held.old text.new held.new }
 {
     let mark = n.mark;
     let Some(m) = mark else {
-        return edited(RANG, n);
+        return Ok(EditorDone {
+            report: RANG,
+            lengths: n,
+        });
     };
     let sizes = holding_sizes(n);
     let l = sizes.l;
@@ -40,28 +47,25 @@ pub fn cut_key(n: Lengths, text: &mut [u8], held: &mut [u8]) -> EditorReply
             steps: l - m,
             lines: 0,
         };
-        let t = delete_side(LONGEST_LINE, Direction::Left, before, sizes, text, held);
-        return lifted_held(n, None, t);
+        let t = delete_side(LONGEST_LINE, Direction::Left, before, sizes, text, held)?;
+        return Ok(lifted_held(n, None, t));
     }
     let behind = Passage {
         steps: m - l,
         lines: 0,
     };
-    let t = delete_side(LONGEST_LINE, Direction::Right, behind, sizes, text, held);
-    lifted_held(n, None, t)
+    let t = delete_side(LONGEST_LINE, Direction::Right, behind, sizes, text, held)?;
+    Ok(lifted_held(n, None, t))
 }
 
 // PASTE: the held pair goes in as RECALL puts the recall pair in.
-pub fn paste_key(n: Lengths, text: &mut [u8], held: &[u8]) -> EditorReply
+pub fn paste_key(n: Lengths, text: &mut [u8], held: &[u8]) -> Result<EditorDone, Refusal>
     requires { OnSide longest_line (holding_sizes n) text.old held.now }
-    ensures { EditsHeld result n (λ T p. bounded T quarter (pasted p)) text.old held.now text.new held.now }
+    ensures { EditsHeld (editor_reply n result) n (λ T p. bounded T quarter (pasted p)) text.old held.now text.new held.now }
 {
     let mark = n.mark;
-    lifted_held(
-        n,
-        mark,
-        recall_side(LONGEST_LINE, holding_sizes(n), text, held),
-    )
+    let t = recall_side(LONGEST_LINE, holding_sizes(n), text, held)?;
+    Ok(lifted_held(n, mark, t))
 }
 
 // ---- The mark through a change
@@ -173,14 +177,17 @@ fn mark_through(e: Exchange, l: usize, mark: Option<usize>) -> Option<usize>
 }
 
 // A key that is done, with the mark where its change leaves it.
-pub fn followed(k: Key, n: Lengths, r: EditorReply) -> EditorReply
-    requires { Followable k n r }
-    ensures { result ≡ followed_reply k n r }
+pub fn followed(k: Key, n: Lengths, done: EditorDone) -> EditorDone
+    requires { Followable k n (editor_done done) }
+    ensures { editor_done result ≡ followed_reply k n (editor_done done) }
 {
     let main = n.main;
-    let report = r.report;
-    let m = r.lengths;
+    let report = done.report;
+    let m = done.lengths;
     let mark = m.mark;
     let e = exchange_of(k, n, report, m);
-    edited(report, marked_at(m, mark_through(e, main.l, mark)))
+    EditorDone {
+        report,
+        lengths: marked_at(m, mark_through(e, main.l, mark)),
+    }
 }

@@ -4,20 +4,21 @@ ghost use Rattle.gap.specs.Rules.Sequence.{patch, zeros};
 ghost use Rattle.gap.specs.Rules.Layout.{paired, ungap};
 ghost use Rattle.editor.specs.Rules.Keys.{other_mode, quoted, bounded};
 ghost use Rattle.editor.specs.Rules.Bytes.{quarter, quarter_of};
-ghost use Rattle.editor.specs.Wording.Promise.{OnSide, EditsSide, editing, EditsQuotation, handed};
+ghost use Rattle.editor.specs.Wording.Promise.{OnSide, EditsSide, editing, EditsQuotation, handed, side_reply, editor_done};
 
-use crate::records::{QUIET, cleared, edited};
+use crate::records::{QUIET, cleared};
+use crate::refusals::Refusal;
 use crate::sides::on_side;
-use crate::{Edit, EditorReply, Lengths, Mode, QUARTER, SideReply, Sizes};
+use crate::{Edit, EditorDone, Lengths, Mode, QUARTER, SideDone, Sizes};
 use gap::runs::{copy_at, copy_front, vacate};
 use gap::texts::hand_over;
 
 // The quotation's quarter is lent as it stands, and its recall text goes through an array of its own, since two parts of one store
 // cannot be lent at once. No line can be longer than the quarter, so that this is no limit of lines.
-pub fn edit_quotation(e: Edit, n: Sizes, side: &mut [u8]) -> SideReply
+pub fn edit_quotation(e: Edit, n: Sizes, side: &mut [u8]) -> Result<SideDone, Refusal>
     requires side_len { length side.old ≡ 4 * quarter }
     requires on_side { OnSide quarter n (quarter_of quarter 0 side.old) (quarter_of quarter 1 side.old) }
-    ensures edits_side { EditsSide quarter result n (editing e) (quarter_of quarter 0 side.old) (quarter_of quarter 1 side.old)
+    ensures edits_side { EditsSide quarter (side_reply n result) n (editing e) (quarter_of quarter 0 side.old) (quarter_of quarter 1 side.old)
         (quarter_of quarter 0 side.new) (quarter_of quarter 1 side.new) }
     ensures side_unchanged { drop (2 * quarter) side.new ≡ drop (2 * quarter) side.old }
 {
@@ -38,13 +39,16 @@ fn other_mode(mode: Mode) -> Mode
 }
 
 // QUOTE: the other mode, with an empty quotation.
-pub fn quote_key(n: Lengths, side: &mut [u8]) -> EditorReply
+pub fn quote_key(n: Lengths, side: &mut [u8]) -> EditorDone
     requires { length side.old ≡ 4 * quarter }
-    ensures { EditsQuotation result n (λ T p. bounded T quarter (quoted p)) side.old side.new }
+    ensures { EditsQuotation (editor_done result) n (λ T p. bounded T quarter (quoted p)) side.old side.new }
 {
     let mode = n.mode;
     vacate(side, 0, 2 * QUARTER);
-    edited(QUIET, cleared(n, other_mode(mode)))
+    EditorDone {
+        report: QUIET,
+        lengths: cleared(n, other_mode(mode)),
+    }
 }
 
 // The quotation's text goes over to the quarter at `at` as a pair, and both of its own quarters become free. The text is copied out,

@@ -1,12 +1,12 @@
-// Reports, replies and records, each built in one place.
+// Reports and records, each built in one place.
 ghost use Rattle.std.specs.Prelude.{◌≡◌, ◌+◌, ◌^◌, ◌≤◌, ◌<◌};
 ghost use Rattle.editor.specs.Rules.Plain.{went};
-ghost use Rattle.editor.specs.Rules.Bytes.{unedited, opening_lengths, holding_sizes};
-ghost use Rattle.editor.specs.Wording.Promise.{room_of, moved_by, refused_reply, done_reply, reply_of, sized_in, cleared};
+ghost use Rattle.editor.specs.Rules.Bytes.{opening_lengths, holding_sizes};
+ghost use Rattle.editor.specs.Wording.Promise.{room_of, moved_by, sized_in, cleared};
 ghost use Rattle.editor.specs.Wording.Promise.{pattern_taken, replacement_taken};
-ghost use Rattle.editor.specs.Wording.Marks.{marked_at, held_in, held_reply};
+ghost use Rattle.editor.specs.Wording.Marks.{marked_at, held_in};
 
-use crate::{EditorReply, Lengths, Mode, Report, SideReply, Sizes};
+use crate::{EditorDone, Lengths, Mode, Report, SideDone, Sizes};
 use gap::Direction;
 
 // ---- Reports
@@ -36,61 +36,15 @@ pub fn went(n: usize, lines: usize) -> Report
     }
 }
 
-// ---- Replies
-
-// Refused: nothing moves.
-pub fn refused(code: usize, n: Sizes) -> SideReply
-    ensures { result ≡ refused_reply code n }
+// A key on the side that the mode names, as one of the whole layer.
+pub fn lifted(mode: Mode, n: Lengths, t: SideDone) -> EditorDone
+    ensures { result ≡ record { report = t.report; lengths = sized_in mode t.sizes n } }
 {
-    SideReply {
-        code: code,
-        report: QUIET,
-        sizes: n,
-    }
-}
-
-pub fn done(report: Report, m: Sizes) -> SideReply
-    ensures { result ≡ done_reply report m }
-{
-    SideReply {
-        code: 0,
-        report: report,
-        sizes: m,
-    }
-}
-
-// Refused: the lengths as they were.
-pub fn unedited(code: usize, n: Lengths) -> EditorReply
-    ensures { result ≡ unedited code n }
-{
-    EditorReply {
-        code: code,
-        report: QUIET,
-        lengths: n,
-    }
-}
-
-pub fn edited(report: Report, n: Lengths) -> EditorReply
-    ensures { result ≡ record { code = 0; report = report; lengths = n } }
-{
-    EditorReply {
-        code: 0,
-        report: report,
-        lengths: n,
-    }
-}
-
-// A key on the side that the mode names, as a reply of the whole layer.
-pub fn lifted(mode: Mode, n: Lengths, t: SideReply) -> EditorReply
-    ensures { result ≡ reply_of mode n t }
-{
-    let code = t.code;
-    if code != 0 {
-        return unedited(code, n);
-    }
-    let report = t.report;
     let sizes = t.sizes;
-    edited(report, sized_in(mode, n, sizes))
+    EditorDone {
+        report: t.report,
+        lengths: sized_in(mode, n, sizes),
+    }
 }
 
 // ---- Records
@@ -264,15 +218,13 @@ fn held_in(n: Lengths, sizes: Sizes) -> Lengths
     m
 }
 
-// A key on the document with the held pair in the place of its recall text, as a reply of the whole layer: refused, or done with this mark.
-pub fn lifted_held(n: Lengths, mark: Option<usize>, t: SideReply) -> EditorReply
-    ensures { result ≡ held_reply n mark t }
+// A key on the document with the held pair in the place of its recall text, as one of the whole layer, with this mark.
+pub fn lifted_held(n: Lengths, mark: Option<usize>, t: SideDone) -> EditorDone
+    ensures { result ≡ record { report = t.report; lengths = held_in t.sizes (marked_at mark n) } }
 {
-    let code = t.code;
-    if code != 0 {
-        return unedited(code, n);
-    }
-    let report = t.report;
     let sizes = t.sizes;
-    edited(report, held_in(marked_at(n, mark), sizes))
+    EditorDone {
+        report: t.report,
+        lengths: held_in(marked_at(n, mark), sizes),
+    }
 }

@@ -1,16 +1,33 @@
-// The refusals by number and name, for this layer and those above.
-pub const SIZE: usize = 1;
+// The refusals by name, for this layer and those above. Their numbers are the host's business.
+ghost use Rattle.std.specs.Prelude.{◌≡◌};
+ghost use Rattle.editor.specs.Rules.Refusals.{number};
 
-pub const LONG: usize = 2;
+#[derive(Clone, Copy, PartialEq, Eq, Debug)]
+pub enum Refusal {
+    Size,
+    Long,
+    Text,
+    Session,
+    Key,
+    Full,
+    Room,
+    Line,
+}
 
-pub const TEXT: usize = 3;
-
-pub const SESSION: usize = 4;
-
-pub const KEY: usize = 5;
-
-pub const FULL: usize = 6;
-
-pub const ROOM: usize = 7;
-
-pub const LINE: usize = 8;
+impl Refusal {
+    // The number that a host is told.
+    pub fn number(self) -> usize
+        ensures { result ≡ number self }
+    {
+        match self {
+            Refusal::Size => 1,
+            Refusal::Long => 2,
+            Refusal::Text => 3,
+            Refusal::Session => 4,
+            Refusal::Key => 5,
+            Refusal::Full => 6,
+            Refusal::Room => 7,
+            Refusal::Line => 8,
+        }
+    }
+}

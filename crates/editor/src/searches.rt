@@ -4,40 +4,41 @@ ghost use Rattle.editor.specs.Rules.Plain.{done};
 ghost use Rattle.editor.specs.Rules.Keys.{searched, found, substituted, replaced, bounded};
 ghost use Rattle.editor.specs.Rules.Bytes.{quarter};
 ghost use Rattle.editor.specs.Wording.Promise.{SoundUnheld, EditsUnheld, Searchable, EditsTexts, SubstitutesUnheld};
-ghost use Rattle.editor.specs.Wording.Promise.{Exchanges, ReadableExchanged};
+ghost use Rattle.editor.specs.Wording.Promise.{Exchanges, ReadableExchanged, editor_reply, editor_done};
 
 use crate::finds::text_begins;
 use crate::passages::match_passage;
 use crate::quotations::hand_quotation;
-use crate::records::{
-    QUIET, RANG, done, edited, lifted, pattern_taken, replacement_taken, unedited,
-};
-use crate::refusals::{FULL, LINE};
+use crate::records::{QUIET, RANG, lifted, pattern_taken, replacement_taken};
+use crate::refusals::Refusal;
 use crate::sides::move_side;
-use crate::{EditorReply, LONGEST_LINE, Lengths, Mode, QUARTER};
+use crate::{EditorDone, LONGEST_LINE, Lengths, Mode, QUARTER, SideDone};
 use gap::Direction;
 use gap::line_limits::runs_fit;
 use gap::runs::hold;
 use gap::texts::{drop_right, place_pair};
 
 // A search with the stored pattern: to the nearest match, or the bell.
-fn search(way: Direction, n: Lengths, text: &mut [u8], side: &[u8]) -> EditorReply
+fn search(way: Direction, n: Lengths, text: &mut [u8], side: &[u8]) -> EditorDone
     requires { Searchable n text.old side.now }
-    ensures { EditsTexts result n (λ T p. done (searched way p)) text.old side.now text.new side.now }
+    ensures { EditsTexts (editor_done result) n (λ T p. done (searched way p)) text.old side.now text.new side.now }
 {
     let main = n.main;
     let end = 2 * QUARTER + n.pl;
     let Some(passage) = match_passage(way, text, main.l, main.r, &side[2 * QUARTER..end]) else {
-        return edited(RANG, n);
+        return EditorDone {
+            report: RANG,
+            lengths: n,
+        };
     };
     let t = move_side(way, passage, main, text);
     lifted(Mode::Main, n, t)
 }
 
 // FIND and UPFIND: in QUOTED the quotation becomes the pattern first.
-pub fn find_key(way: Direction, n: Lengths, text: &mut [u8], side: &mut [u8]) -> EditorReply
+pub fn find_key(way: Direction, n: Lengths, text: &mut [u8], side: &mut [u8]) -> EditorDone
     requires { Searchable n text.old side.old }
-    ensures { EditsTexts result n (λ T p. bounded T quarter (found way p)) text.old side.old text.new side.new }
+    ensures { EditsTexts (editor_done result) n (λ T p. bounded T quarter (found way p)) text.old side.old text.new side.new }
 {
     let mode = n.mode;
     let quoted = n.quoted;
@@ -47,19 +48,16 @@ pub fn find_key(way: Direction, n: Lengths, text: &mut [u8], side: &mut [u8]) ->
 
 // The pattern right of the cursor is exchanged for the replacement and becomes the recall text; or, where it does not stand there,
 // the bell. The finished text and its lines are known to fit.
-fn substitute(
-    here: bool,
-    n: Lengths,
-    text: &mut [u8],
-    recall: &mut [u8],
-    side: &[u8],
-) -> EditorReply
+fn substitute(here: bool, n: Lengths, text: &mut [u8], recall: &mut [u8], side: &[u8]) -> EditorDone
     requires { SubstitutesUnheld here n text.old recall.old side.now }
-    ensures { EditsUnheld result n (λ T p. done (substituted p)) text.old recall.old side.now
+    ensures { EditsUnheld (editor_done result) n (λ T p. done (substituted p)) text.old recall.old side.now
         text.new recall.new side.now }
 {
     if !here {
-        return edited(RANG, n);
+        return EditorDone {
+            report: RANG,
+            lengths: n,
+        };
     }
     let mut main = n.main;
     let l = main.l;
@@ -75,7 +73,11 @@ fn substitute(
     main.r = r - pl + y;
     main.rl = 0;
     main.rr = pl;
-    lifted(Mode::Main, n, done(QUIET, main))
+    let done = SideDone {
+        report: QUIET,
+        sizes: main,
+    };
+    lifted(Mode::Main, n, done)
 }
 
 // Where the pattern stands, the text with the replacement in its place fits: the pattern's room is given back first.
@@ -135,9 +137,14 @@ fn exchange_readable(here: bool, n: Lengths, text: &[u8], side: &[u8]) -> bool
 }
 
 // REPLACE: FULL and then LINE are tested before anything is written; in QUOTED the quotation then becomes the replacement.
-pub fn replace_key(n: Lengths, text: &mut [u8], recall: &mut [u8], side: &mut [u8]) -> EditorReply
+pub fn replace_key(
+    n: Lengths,
+    text: &mut [u8],
+    recall: &mut [u8],
+    side: &mut [u8],
+) -> Result<EditorDone, Refusal>
     requires { SoundUnheld n text.old recall.old side.old }
-    ensures { EditsUnheld result n (λ T p. bounded T quarter (replaced p)) text.old recall.old side.old
+    ensures { EditsUnheld (editor_reply n result) n (λ T p. bounded T quarter (replaced p)) text.old recall.old side.old
         text.new recall.new side.new }
 {
     let mode = n.mode;
@@ -147,11 +154,11 @@ pub fn replace_key(n: Lengths, text: &mut [u8], recall: &mut [u8], side: &mut [u
     let here = text_begins(text, main.l, main.r, main.l, &side[2 * QUARTER..end]);
     let m = replacement_taken(n);
     if !exchange_fits(here, text.len(), m) {
-        return unedited(FULL, n);
+        return Err(Refusal::Full);
     }
     if !exchange_readable(here, n, text, side) {
-        return unedited(LINE, n);
+        return Err(Refusal::Line);
     }
     hand_quotation(mode, quoted, 3 * QUARTER, side);
-    substitute(here, m, text, recall, side)
+    Ok(substitute(here, m, text, recall, side))
 }

@@ -6,35 +6,38 @@ ghost use Rattle.gap.specs.Rules.Layout.{gapped, ungap, IsGap};
 ghost use Rattle.gap.specs.Rules.LineLimits.{lines_fit};
 ghost use Rattle.editor.specs.declared.Action.TheVariants.{Move, Delete};
 ghost use Rattle.editor.specs.Rules.Keys.{inserted, carried, function, recalled};
-ghost use Rattle.editor.specs.Wording.Promise.{room_of, OnSide, EditsSide, EditsText, editing};
+ghost use Rattle.editor.specs.Wording.Promise.{room_of, OnSide, EditsSide, EditsText, editing, side_reply, side_done};
 
 use crate::indents::{newline_side, tab_side};
 use crate::passages::place_passage;
-use crate::records::{QUIET, RANG, done, moved_by, refused, went};
-use crate::refusals::{FULL, LINE};
+use crate::records::{QUIET, RANG, moved_by, went};
+use crate::refusals::Refusal;
 use crate::splices::{join_fits, pair_fits, run_fits};
-use crate::{Action, Edit, Passage, Place, SideReply, Sizes};
+use crate::{Action, Edit, Passage, Place, SideDone, Sizes};
 use gap::Direction;
 use gap::texts::{delete_left, delete_right, insert, move_left, move_right, place_pair};
 
 // A byte goes in. Whether it fits is known before anything is written.
-pub fn insert_side(limit: usize, b: u8, n: Sizes, text: &mut [u8]) -> SideReply
+pub fn insert_side(limit: usize, b: u8, n: Sizes, text: &mut [u8]) -> Result<SideDone, Refusal>
     requires gap { IsGap n.l n.r text.old }
     requires text_value { lines_fit limit (content (ungap n.l n.r text.old)) ≡ true }
-    ensures { EditsText limit result n (inserted b) text.old text.new }
+    ensures { EditsText limit (side_reply n result) n (inserted b) text.old text.new }
 {
     let l = n.l;
     let r = n.r;
     if text.len() <= l + r {
-        return refused(FULL, n);
+        return Err(Refusal::Full);
     }
     if !run_fits(limit, b, 0, text, l, r) {
-        return refused(LINE, n);
+        return Err(Refusal::Line);
     }
     insert(text, l, r, b);
     let mut m = n;
     m.l = l + 1;
-    done(QUIET, m)
+    Ok(SideDone {
+        report: QUIET,
+        sizes: m,
+    })
 }
 
 // The cursor of a gap store goes d bytes.
@@ -50,15 +53,18 @@ pub fn move_cursor(way: Direction, d: usize, l: usize, r: usize, text: &mut [u8]
 }
 
 // A move. The lines stay as they are.
-pub fn move_side(way: Direction, passage: Passage, n: Sizes, text: &mut [u8]) -> SideReply
+pub fn move_side(way: Direction, passage: Passage, n: Sizes, text: &mut [u8]) -> SideDone
     requires gap { IsGap n.l n.r text.old }
     requires steps_bound { passage.steps ≤ room_of way n }
-    ensures { (limit : ℕ) → EditsText limit result n (carried Move way (Some passage)) text.old text.new }
+    ensures { (limit : ℕ) → EditsText limit (side_done result) n (carried Move way (Some passage)) text.old text.new }
 {
     let d = passage.steps;
     let m = moved_by(way, d, n);
     move_cursor(way, d, n.l, n.r, text);
-    done(went(d, passage.lines), m)
+    SideDone {
+        report: went(d, passage.lines),
+        sizes: m,
+    }
 }
 
 // The bytes that a move would cross go over into the recall text.
@@ -69,10 +75,10 @@ pub fn delete_side(
     n: Sizes,
     text: &mut [u8],
     recall: &mut [u8],
-) -> SideReply
+) -> Result<SideDone, Refusal>
     requires on_side { OnSide limit n text.old recall.old }
     requires steps_bound { passage.steps ≤ room_of way n }
-    ensures { EditsSide limit result n (carried Delete way (Some passage)) text.old recall.old
+    ensures { EditsSide limit (side_reply n result) n (carried Delete way (Some passage)) text.old recall.old
         text.new recall.new }
 {
     let d = passage.steps;
@@ -83,23 +89,29 @@ pub fn delete_side(
     match way {
         Direction::Left => {
             if !join_fits(limit, text, l - d, r) {
-                return refused(LINE, n);
+                return Err(Refusal::Line);
             }
             delete_left(text, l, r, d, recall);
             m.l = l - d;
             m.rl = d;
             m.rr = 0;
-            done(went(d, lines), m)
+            Ok(SideDone {
+                report: went(d, lines),
+                sizes: m,
+            })
         }
         Direction::Right => {
             if !join_fits(limit, text, l, r - d) {
-                return refused(LINE, n);
+                return Err(Refusal::Line);
             }
             delete_right(text, l, r, d, recall);
             m.r = r - d;
             m.rl = 0;
             m.rr = d;
-            done(went(d, lines), m)
+            Ok(SideDone {
+                report: went(d, lines),
+                sizes: m,
+            })
         }
     }
 }
@@ -113,14 +125,14 @@ fn carry_side(
     n: Sizes,
     text: &mut [u8],
     recall: &mut [u8],
-) -> SideReply
+) -> Result<SideDone, Refusal>
     requires on_side { OnSide limit n text.old recall.old }
     requires steps_bound { passage.steps ≤ room_of way n }
-    ensures { EditsSide limit result n (carried action way (Some passage)) text.old recall.old
+    ensures { EditsSide limit (side_reply n result) n (carried action way (Some passage)) text.old recall.old
         text.new recall.new }
 {
     match action {
-        Action::Move => move_side(way, passage, n, text),
+        Action::Move => Ok(move_side(way, passage, n, text)),
         Action::Delete => delete_side(limit, way, passage, n, text, recall),
     }
 }
@@ -134,45 +146,62 @@ pub fn function_side(
     n: Sizes,
     text: &mut [u8],
     recall: &mut [u8],
-) -> SideReply
+) -> Result<SideDone, Refusal>
     requires { OnSide limit n text.old recall.old }
-    ensures { EditsSide limit result n (function action way place) text.old recall.old
+    ensures { EditsSide limit (side_reply n result) n (function action way place) text.old recall.old
         text.new recall.new }
 {
     let l = n.l;
     let r = n.r;
     let Some(passage) = place_passage(place, way, text, l, r) else {
-        return done(RANG, n);
+        return Ok(SideDone {
+            report: RANG,
+            sizes: n,
+        });
     };
     carry_side(limit, action, way, passage, n, text, recall)
 }
 
 // The recall pair goes in around the cursor, if it fits.
-pub fn recall_side(limit: usize, n: Sizes, text: &mut [u8], recall: &[u8]) -> SideReply
+pub fn recall_side(
+    limit: usize,
+    n: Sizes,
+    text: &mut [u8],
+    recall: &[u8],
+) -> Result<SideDone, Refusal>
     requires { OnSide limit n text.old recall.now }
-    ensures { EditsSide limit result n recalled text.old recall.now text.new recall.now }
+    ensures { EditsSide limit (side_reply n result) n recalled text.old recall.now text.new recall.now }
 {
     let l = n.l;
     let r = n.r;
     let rl = n.rl;
     let rr = n.rr;
     if text.len() - (l + r) < rl + rr {
-        return refused(FULL, n);
+        return Err(Refusal::Full);
     }
     if !pair_fits(limit, text, l, r, recall, rl, rr) {
-        return refused(LINE, n);
+        return Err(Refusal::Line);
     }
     place_pair(text, l, r, recall, rl, rr);
     let mut m = n;
     m.l = l + rl;
     m.r = r + rr;
-    done(QUIET, m)
+    Ok(SideDone {
+        report: QUIET,
+        sizes: m,
+    })
 }
 
 // A key on one side.
-pub fn on_side(limit: usize, e: Edit, n: Sizes, text: &mut [u8], recall: &mut [u8]) -> SideReply
+pub fn on_side(
+    limit: usize,
+    e: Edit,
+    n: Sizes,
+    text: &mut [u8],
+    recall: &mut [u8],
+) -> Result<SideDone, Refusal>
     requires { OnSide limit n text.old recall.old }
-    ensures { EditsSide limit result n (editing e) text.old recall.old
+    ensures { EditsSide limit (side_reply n result) n (editing e) text.old recall.old
         text.new recall.new }
 {
     match e {

@@ -19,8 +19,8 @@ use Rattle.gap.proofs.Laws.Doc.{splice-twice}
 use Rattle.gap.proofs.Laws.Layout.{length-gapped, ungap-gapped}
 use Rattle.gap.proofs.Laws.Moves.{gap_is}
 use Rattle.editor.specs.Words.{Direction, Passage, Move, Main, Sizes, Lengths, Report}
-use Rattle.editor.specs.declared.SideReply.{SideReply}
-use Rattle.editor.specs.declared.EditorReply.{EditorReply}
+use Rattle.editor.specs.Wording.Promise.{SideReply}
+use Rattle.editor.specs.Rules.Bytes.{EditorReply}
 use Rattle.editor.specs.Rules.Plain.{Side, Plain, quiet, rang, Did, reporting, within, done}
 use Rattle.editor.specs.Rules.Passages.{passage_to}
 use Rattle.editor.specs.Rules.LongLines.{longest_line, readable}

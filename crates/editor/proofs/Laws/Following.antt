@@ -14,7 +14,7 @@ use Rattle.gap.proofs.Laws.Tests.{decided, clash, cond-true}
 use Rattle.gap.specs.Rules.Doc.{Doc}
 use Rattle.editor.specs.Words.{Direction, Left, Right, Move, Delete, Mode, Main, Quoted, Lengths, Exchange}
 use Rattle.editor.specs.Words.{Key, Insert, Function, Recall, Quote, Find, Replace, Mark, Cut, Paste, Newline, Tab}
-use Rattle.editor.specs.declared.EditorReply.{EditorReply}
+use Rattle.editor.specs.Rules.Bytes.{EditorReply}
 use Rattle.editor.specs.Rules.Refusals.{FULL, LINE}
 use Rattle.editor.specs.Rules.LongLines.{longest_line, readable}
 use Rattle.editor.specs.Rules.Plain.{Plain, Did, refused, done}

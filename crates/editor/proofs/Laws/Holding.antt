@@ -8,23 +8,23 @@ use Prim.Native.Nat.{ℕ, ◌+◌, ◌-◌, ◌≤◌, ◌<◌}
 use lib.Dec.{leb}
 use lib.ListN.{length}
 use native.Mathlib.Omega.{arith}
-use borrow.Author.Tests.{le-leb, lt-leb, leb-true, leb-false}
+use borrow.Author.Tests.{le-leb, lt-leb, leb-true, leb-false, ne_eqb}
 use Rattle.gap.specs.Rules.Doc.{content}
 use Rattle.gap.specs.Rules.Layout.{gapped, paired}
 use Rattle.gap.proofs.Laws.Tests.{decided, cond-true, cond-false}
 use Rattle.gap.proofs.Laws.Layout.{is-gap, is-pair}
 use Rattle.gap.proofs.Laws.Holdable.{content-fits}
-use Rattle.editor.specs.Words.{Direction, Delete, Lengths, Report}
-use Rattle.editor.specs.declared.SideReply.{SideReply}
-use Rattle.editor.specs.declared.EditorReply.{EditorReply}
-use Rattle.editor.specs.Rules.Refusals.{FULL, LINE}
+use Rattle.editor.specs.Words.{Direction, Delete, Sizes, Lengths, Report}
+use Rattle.editor.specs.declared.refusals.Refusal.{Refusal}
+use Rattle.editor.specs.Rules.Refusals.{FULL, LINE, number}
 use Rattle.editor.specs.Rules.Plain.{Side, Plain, holding, quiet, rang, Did, reporting, within, refused, done}
 use Rattle.editor.specs.Rules.LongLines.{longest_line, readable}
 use Rattle.editor.specs.Rules.Marks.{mark_within, way_to, far_to}
 use Rattle.editor.specs.Rules.Keys.{carried, recalled, with_mark, marked_here, with_holding, cut_to, cut, pasted, fits, bounded}
-use Rattle.editor.specs.Rules.Bytes.{Stores, Edited, sizes_of, holding_sizes, plain_of, lengths_of, stores_of, edited_to, Encoded}
-use Rattle.editor.specs.Wording.Promise.{OnSide, SideEdited, written, EditsSide, Sound, stores}
+use Rattle.editor.specs.Rules.Bytes.{Stores, EditorReply, Edited, sizes_of, holding_sizes, plain_of, lengths_of, stores_of, unedited, edited_to, Encoded}
+use Rattle.editor.specs.Wording.Promise.{OnSide, SideReply, SideEdited, refused_reply, written, EditsSide, Sound, stores}
 use Rattle.editor.specs.Wording.Marks.{marked_at, held_in, held_reply}
+use Rattle.editor.proofs.Laws.Refusals.{numbered}
 use Rattle.editor.proofs.Laws.Session.{measured, passed}
 use Rattle.editor.proofs.Laws.Encoding.{session-encoded}
 use Rattle.editor.proofs.Laws.Fitting.{sizes}
@@ -41,6 +41,10 @@ mark-beyond m l r over =
     (λ t. let fit : m ≤ l + r = omega (arith, leb-true (m - l) r t) in t ∙ sym (le-leb m (l + r) fit))
     (λ t. let beyond : l + r < m = omega (arith, leb-false (m - l) r t) in t ∙ sym (lt-leb m (l + r) beyond))
     (decided (leb (m - l) r))
+
+-- What is refused on one side is refused on the whole layer.
+pub held-refused : (n : Lengths) (mark : Option ℕ) (sizes : Sizes) (e : Refusal) → unedited (number e) n ≡ held_reply n mark (refused_reply (number e) sizes)
+held-refused n mark m e = sym (cond-false _ _ (ne_eqb _ _ (numbered e)))
 
 module _ (Q : ℕ) (n : Lengths) (b : Stores) (sound : Sound Q n b) where
   abbrev p : Plain

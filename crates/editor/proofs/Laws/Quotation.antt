@@ -12,7 +12,7 @@ use Rattle.gap.specs.Rules.Layout.{gapped, paired}
 use Rattle.gap.proofs.Laws.Sequence.{length-zeros}
 use Rattle.gap.proofs.Laws.Runs.{zeros-both, part-middle, patch-middle}
 use Rattle.editor.specs.Words.{Sizes}
-use Rattle.editor.specs.declared.SideReply.{SideReply}
+use Rattle.editor.specs.Wording.Promise.{SideReply}
 use Rattle.editor.specs.Rules.Plain.{Side, Did}
 use Rattle.editor.specs.Rules.Bytes.{quarter_of}
 use Rattle.editor.specs.Wording.Promise.{written, side_held, EditsSide}

@@ -18,7 +18,7 @@ use Rattle.editor.specs.Rules.LongLines.{longest_line, readable}
 use Rattle.editor.specs.Rules.Plain.{Plain, Did}
 use Rattle.editor.specs.Rules.Keys.{matches, with_replacement, substituted, replaced, fits, bounded}
 use Rattle.editor.specs.Rules.Bytes.{Stores, plain_of, unedited, edited_to, SoundTexts, Encoded}
-use Rattle.editor.specs.declared.EditorReply.{EditorReply}
+use Rattle.editor.specs.Rules.Bytes.{EditorReply}
 use Rattle.editor.specs.Wording.Promise.{Sound, replacement_taken}
 use Rattle.editor.proofs.Laws.HandedOver.{Holds}
 use Rattle.editor.proofs.Laws.Fitting.{Sized, sizes, Fitting}

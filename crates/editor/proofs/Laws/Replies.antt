@@ -8,7 +8,7 @@ use native.Mathlib.Omega.{arith}
 use lib.Dec.{leb}
 use lib.ListN.{length, drop, length-append}
 use lib.Seq.{drop_at}
-use borrow.Author.Tests.{le-leb}
+use borrow.Author.Tests.{le-leb, ne_eqb}
 use Rattle.gap.specs.Rules.Sequence.{patch, zeros}
 use Rattle.gap.specs.Rules.Doc.{empty, content}
 use Rattle.gap.specs.Rules.Layout.{gapped, paired}
@@ -17,17 +17,18 @@ use Rattle.gap.proofs.Laws.Tests.{decided, cond-true, cond-false}
 use Rattle.gap.proofs.Laws.LineLimits.{fit-short}
 use Rattle.gap.proofs.Laws.Layout.{length-gapped, length-paired, is-gap, is-pair}
 use Rattle.editor.specs.Words.{Mode, Main, Quoted, Sizes, Lengths, Report}
-use Rattle.editor.specs.declared.SideReply.{SideReply}
-use Rattle.editor.specs.declared.EditorReply.{EditorReply}
-use Rattle.editor.specs.Rules.Refusals.{FULL, LINE}
+use Rattle.editor.specs.Rules.Bytes.{EditorReply}
+use Rattle.editor.specs.declared.refusals.Refusal.{Refusal}
+use Rattle.editor.specs.Rules.Refusals.{FULL, LINE, number}
 use Rattle.editor.specs.Rules.Plain.{Side, empty_side, Plain, quiet, Did, within, refused, done}
 use Rattle.editor.specs.Rules.LongLines.{longest_line, readable}
 use Rattle.editor.specs.Rules.Keys.{side_of, with_side, on_side, other_mode, quoted, fits, bounded}
 use Rattle.editor.specs.Rules.Bytes.{Stores, Edited, quarter_of, alone, sizes_of, plain_of, lengths_of, stores_of, unedited, edited_to, SoundTexts, Encoded}
-use Rattle.editor.specs.Wording.Promise.{OnSide, side_held, SideEdited, written, EditsSide, Sound, stores, cleared, sized_in, reply_of}
+use Rattle.editor.specs.Wording.Promise.{OnSide, SideReply, side_held, SideEdited, written, EditsSide, Sound, stores, cleared, refused_reply, sized_in, reply_of}
 use Rattle.gap.proofs.Laws.Holdable.{content-fits}
 use Rattle.editor.proofs.Laws.Quarters.{length-quarter}
 use Rattle.editor.proofs.Laws.Quotation.{two-quarters, quotation-cleared}
+use Rattle.editor.proofs.Laws.Refusals.{numbered}
 use Rattle.editor.proofs.Laws.Session.{measured, passed}
 use Rattle.editor.proofs.Laws.Encoding.{session-encoded}
 use Rattle.editor.proofs.Laws.States.{limit, line_limit, fits-side, quoted-sound}
@@ -92,6 +93,10 @@ module _ (T Q : ℕ) (s : Side) (p : Plain) (sound : SoundTexts T Q p) where
   lines-with : (m : Mode) → fits T Q (with_side m s p) ≡ true → lines_fit (line_limit Q m) (content s.text) ≡ readable longest_line (with_side m s p)
   lines-with Main room = refl
   lines-with Quoted room = fit-short Q (content s.text) (fits-side T Q Quoted (with_side Quoted s p) room) ∙ sym sound.lines
+
+-- What is refused on one side is refused on the whole layer.
+pub lifted-refused : (m : Mode) (n : Lengths) (sizes : Sizes) (e : Refusal) → unedited (number e) n ≡ reply_of m n (refused_reply (number e) sizes)
+lifted-refused m n sizes e = sym (cond-false _ _ (ne_eqb _ _ (numbered e)))
 
 sized-with : (m : Mode) (s : Side) (p : Plain) → sized_in m (sizes_of s) (lengths_of p) ≡ lengths_of (with_side m s p)
 unfolding lengths_of

@@ -22,7 +22,7 @@ use Rattle.gap.proofs.Laws.LineLimits.{fit-left, fit-right, fit-take, fit-drop}
 use Rattle.gap.proofs.Laws.Indents.{length-spaces, spaces-suc}
 use Rattle.gap.proofs.Laws.Layout.{length-left, length-right}
 use Rattle.editor.specs.Words.{Direction, Left, Right, Passage, Action, Move, Delete, Place, Sizes, Report}
-use Rattle.editor.specs.declared.SideReply.{SideReply}
+use Rattle.editor.specs.Wording.Promise.{SideReply}
 use Rattle.editor.specs.Rules.Refusals.{FULL, LINE}
 use Rattle.editor.specs.Rules.Plain.{Side, quiet, rang, went, Did, reporting}
 use Rattle.gap.proofs.Laws.Nearest.{reached-least}

@@ -1,12 +1,11 @@
 -- The plain state as record and stores: writing it down, reading it back, and the session test without the window's part.
 -- T is the length of the text store, Q that of a quarter of the side store.
-use Rattle.editor.specs.Words.{Mode, Main, Quoted, Sizes, Lengths}
+use Rattle.editor.specs.Words.{Mode, Main, Quoted, Sizes, Lengths, Report}
 use Rattle.std.specs.Prelude.{◌≡◌, List, [], ◌++◌, Bool, true, ◌&&◌, ◌||◌, ℕ, ◌*◌, eqb, ◌+◌, leb, length, None}
 use Rattle.gap.specs.Rules.Sequence.{part}
 use Rattle.gap.specs.Rules.Doc.{Doc, content}
 use Rattle.gap.specs.Rules.LineLimits.{lines_fit}
 use Rattle.gap.specs.Rules.Layout.{gapped, paired, ungap, unpair, sound_gap, sound_pair, Holdable}
-use Rattle.editor.specs.declared.EditorReply.{EditorReply}
 use Rattle.editor.specs.Rules.Plain.{Side, Plain, holding, quiet, Outcome, refused, done}
 use Rattle.editor.specs.Rules.LongLines.{longest_line, readable}
 use Rattle.editor.specs.Rules.Marks.{mark_within}
@@ -125,7 +124,13 @@ editor_ok Q n b =
     && ((sound_pair n.hl n.hr b.held && mark_within (n.main.l + n.main.r) n.mark)
     && ((one_half n.main && one_half n.quoted) && (one_half (holding_sizes n) && unquoted n.mode n.quoted)))))
 
--- What this layer's key call gives: its reply and the stores.
+-- What this layer's key call replies: 0 or a refusal's number, its report, and the lengths now.
+pub record EditorReply : Type 0 where
+  pub code : ℕ
+  pub report : Report
+  pub lengths : Lengths
+
+-- What it gives: its reply and the stores.
 pub record Edited : Type 0 where
   pub reply : EditorReply
   pub stores : Stores

@@ -3,10 +3,9 @@ use Rattle.std.specs.Prelude.{◌≡◌, ◌≤◌, Bool, true, false, cond, ℕ
 use Rattle.editor.specs.Words.{Direction, Left, Right, Mode, Main, Quoted, Move, Delete}
 use Rattle.editor.specs.Words.{Key, Insert, Function, Recall, Quote, Find, Replace, Mark, Cut, Paste, Newline, Tab}
 use Rattle.editor.specs.Words.{Sizes, Lengths, Report, Exchange}
-use Rattle.editor.specs.declared.SideReply.{SideReply}
-use Rattle.editor.specs.declared.EditorReply.{EditorReply}
 use Rattle.editor.specs.Rules.Marks.{mark_through, mark_within}
-use Rattle.editor.specs.Rules.Bytes.{unedited}
+use Rattle.editor.specs.Rules.Bytes.{EditorReply, unedited}
+use Rattle.editor.specs.Wording.Promise.{SideReply}
 
 -- The lengths with another mark; and with the sizes that a key left of the document with the held pair in the place of its recall text.
 abbrev pub marked_at : Option ℕ → Lengths → Lengths

@@ -1,5 +1,5 @@
 -- How the promises of this layer's functions speak: what they ask of lent stores, and their outcome as one value.
-use Rattle.std.specs.Prelude.{◌≡◌, ◌≤◌, List, [], ◌∷◌, Bool, true, cond, ℕ, ◌+◌, ◌-◌, ◌*◌, eqb, leb, length, take, Option, Some, None}
+use Rattle.std.specs.Prelude.{◌≡◌, ◌≤◌, List, [], ◌∷◌, Bool, true, cond, ℕ, ◌+◌, ◌-◌, ◌*◌, eqb, leb, length, take, Option, Some, None, Result, Ok, Err}
 use Rattle.editor.specs.Words.{Direction, Left, Right}
 use Rattle.editor.specs.Words.{Mode, Main, Quoted, Sizes, Lengths, Report}
 use Rattle.gap.specs.Rules.Sequence.{patch, zeros}
@@ -9,14 +9,15 @@ use Rattle.gap.specs.Rules.LineLimits.{lines_fit}
 use Rattle.gap.specs.Rules.Layout.{gapped, paired, ungap, unpair, IsGap, IsPair}
 use Rattle.editor.specs.declared.Edit.{Edit}
 use Rattle.editor.specs.declared.Edit.TheVariants as edits
-use Rattle.editor.specs.declared.SideReply.{SideReply}
-use Rattle.editor.specs.declared.EditorReply.{EditorReply}
-use Rattle.editor.specs.Rules.Refusals.{FULL, LINE}
+use Rattle.editor.specs.declared.SideDone.{SideDone}
+use Rattle.editor.specs.declared.EditorDone.{EditorDone}
+use Rattle.editor.specs.declared.refusals.Refusal.{Refusal}
+use Rattle.editor.specs.Rules.Refusals.{FULL, LINE, number}
 use Rattle.editor.specs.Rules.Plain.{Side, Plain, opening, quiet, Did, Outcome}
 use Rattle.editor.specs.Rules.LongLines.{longest_line, readable}
 use Rattle.editor.specs.Rules.Indents.{newlined, tabbed}
 use Rattle.editor.specs.Rules.Keys.{inserted, function, recalled, matches, substituted, replaced, fits}
-use Rattle.editor.specs.Rules.Bytes.{Stores, quarter, quarter_of, sized, sizes_of, plain_of, lengths_of, stores_of, editor_ok, unedited, edited_to, no_sizes}
+use Rattle.editor.specs.Rules.Bytes.{Stores, EditorReply, quarter, quarter_of, sized, sizes_of, plain_of, lengths_of, stores_of, editor_ok, unedited, edited_to, no_sizes}
 
 -- ---- One side
 
@@ -48,12 +49,26 @@ pub record HalvesFit (limit : ℕ) (d : Doc) : Type 0 where
 abbrev pub side_held : Sizes → List ℕ → List ℕ → Side
 side_held n text recall = record { text = ungap n.l n.r text; recall = unpair n.rl n.rr recall }
 
+-- What a key on one side replies: 0 or a refusal's number, its report, and the sizes now.
+pub record SideReply : Type 0 where
+  pub code : ℕ
+  pub report : Report
+  pub sizes : Sizes
+
 -- The replies of a key that is refused with a number, and of one that is done.
 abbrev pub refused_reply : ℕ → Sizes → SideReply
 refused_reply code n = record { code = code; report = quiet; sizes = n }
 
 abbrev pub done_reply : Report → Sizes → SideReply
 done_reply report m = record { code = 0; report = report; sizes = m }
+
+-- What the code answers, as such a reply; refused, the sizes are those from before.
+abbrev pub side_done : SideDone → SideReply
+side_done t = done_reply t.report t.sizes
+
+abbrev pub side_reply : Sizes → Result SideDone Refusal → SideReply
+side_reply n (Ok t) = side_done t
+side_reply n (Err e) = refused_reply (number e) n
 
 -- What a key on one side gives: its reply and the two stores.
 pub record SideEdited : Type 0 where
@@ -101,6 +116,14 @@ pub record Sound (Q : ℕ) (n : Lengths) (b : Stores) : Type 0 where
 
 abbrev pub stores : List ℕ → List ℕ → List ℕ → List ℕ → Stores
 stores text recall held side = record { text = text; recall = recall; held = held; side = side }
+
+-- What the code answers, as a reply of the whole layer; refused, the lengths are those from before.
+abbrev pub editor_done : EditorDone → EditorReply
+editor_done r = record { code = 0; report = r.report; lengths = r.lengths }
+
+abbrev pub editor_reply : Lengths → Result EditorDone Refusal → EditorReply
+editor_reply n (Ok r) = editor_done r
+editor_reply n (Err e) = unedited (number e) n
 
 -- A function on the four stores does what the plain editor says of a text store of T bytes: its reply and all four stores are
 -- determined.

@@ -16,7 +16,7 @@ use Rattle.gap.specs.Rules.Lines.{newlines}
 use Rattle.gap.specs.Rules.Layout.{gapped, ungap}
 use Rattle.gap.proofs.Laws.Tests.{and_left, and_right, and_both, cond-true, cond-false}
 use Rattle.gap.proofs.Laws.Layout.{length-gapped}
-use Rattle.editor.specs.declared.EditorReply.{EditorReply}
+use Rattle.editor.specs.Rules.Bytes.{EditorReply}
 use Rattle.editor.specs.Rules.Refusals.{SIZE, SESSION}
 use Rattle.editor.specs.Rules.Plain.{Plain, Did, Outcome, refused, done}
 use Rattle.gap.proofs.Laws.Lines.{newlines-append, newlines-fit, since-fits}

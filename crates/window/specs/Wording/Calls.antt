@@ -4,7 +4,7 @@ use Rattle.window.specs.Words.{Lengths, Frame, Session}
 use Rattle.gap.specs.Rules.Doc.{Doc}
 use Rattle.gap.specs.Rules.Lines.{newlines}
 use Rattle.gap.specs.Rules.Layout.{ungap}
-use Rattle.editor.specs.declared.EditorReply.{EditorReply}
+use Rattle.editor.specs.Rules.Bytes.{EditorReply}
 use Rattle.editor.specs.Rules.Plain.{Plain, Did}
 use Rattle.editor.specs.Rules.Bytes.{Stores, quarter, quarter_of, plain_of}
 use Rattle.editor.specs.Wording.Promise.{Sound, stores}

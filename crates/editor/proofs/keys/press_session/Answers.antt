@@ -1,27 +1,29 @@
 -- `press_session` does what the plain editor says: KEY where the key is not sound, then the key and the mark through its change.
-use mathlib.Core.Path.{sym, ◌∙◌}
+use mathlib.Core.Path.{sym, ◌∙◌, refl}
 use native.Mathlib.Omega.{arith}
+use Rattle.std.proofs.lemmas.Result.{err_from_is_err_and}
 use Rattle.editor.specs.Rules.Bytes.{quarter, plain_of}
 use Rattle.editor.specs.Rules.Keys.{key}
+use Rattle.editor.proofs.Laws.Refusals.{numbered}
 use Rattle.editor.proofs.Laws.Following.{refused-same, done-followed, can-follow}
 use Rattle.editor.proofs.keys.press_session.Goals as goal
 
 pub returns-then-not-sound_key : goal.returns-then-not-sound_key
 unfolding key plain_of
-returns-then-not-sound_key c = rw (c.unedited.ensures, sym c.sound_key.ensures ∙ c.if-not-sound_key.true)
+returns-then-not-sound_key c = rw (sym c.sound_key.ensures ∙ c.if-not-sound_key.true)
 
-pub returns-then-code-ne0 : goal.returns-then-code-ne0
-returns-then-code-ne0 c =
+pub returns-in_err-done : goal.returns-in_err-done
+returns-in_err-done c =
     let ok = sym c.sound_key.ensures ∙ c.if-not-sound_key.false in
-    refused-same quarter _ _ c.requires _ ok c.act-r.ensures c.if-code-ne0.true
+    let gone = err_from_is_err_and c.from_residual.result c.from_residual.ensures.1 in
+    rw (gone.1, gone.2) (refused-same quarter _ _ c.requires _ ok c.in_err-done.ensures (numbered _))
 
 pub followed-requires : goal.followed-requires
 unfolding quarter
 followed-requires c =
-    let ok = sym c.sound_key.ensures ∙ c.if-not-sound_key.false in
-    can-follow quarter _ _ c.requires _ ok c.act-r.ensures c.if-code-ne0.false (omega arith)
+    let ok = sym c.sound_key.ensures ∙ c.if-not-sound_key.false in can-follow quarter _ _ c.requires _ ok c.in_ok-done.ensures refl (omega arith)
 
 pub returns : goal.returns
 returns c =
     let ok = sym c.sound_key.ensures ∙ c.if-not-sound_key.false in
-    rw c.followed.ensures (done-followed quarter _ _ c.requires _ ok c.act-r.ensures c.if-code-ne0.false)
+    rw c.followed.ensures (done-followed quarter _ _ c.requires _ ok c.in_ok-done.ensures refl)

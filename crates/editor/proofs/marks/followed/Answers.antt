@@ -5,4 +5,4 @@ pub mark_through-requires : goal.mark_through-requires
 mark_through-requires c = rw c.exchange_of-e.ensures c.requires.moderate
 
 pub returns : goal.returns
-returns c = rw (c.edited.ensures, c.marked_at.ensures, c.mark_through.ensures, c.exchange_of-e.ensures)
+returns c = rw (c.marked_at.ensures, c.mark_through.ensures, c.exchange_of-e.ensures)

@@ -5,4 +5,4 @@ use Rattle.editor.proofs.Laws.Holding.{mark-done}
 use Rattle.editor.proofs.marks.mark_key.Goals as goal
 
 pub returns : goal.returns
-returns c = λ b sound. mark-done quarter _ b sound c.edited.ensures refl c.marked_at.ensures
+returns c = λ b sound. mark-done quarter _ b sound refl refl c.marked_at.ensures

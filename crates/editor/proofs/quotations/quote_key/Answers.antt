@@ -14,4 +14,4 @@ pub returns : goal.returns
 unfolding quarter
 returns c =
     let lengths = c.cleared.ensures ∙ ap (λ mode. cleared mode c.args.n) c.other_mode.ensures in
-    λ text recall held sound. quote-done quarter _ _ sound _ c.edited.ensures refl lengths c.vacate.ensures
+    λ text recall held sound. quote-done quarter _ _ sound _ refl refl lengths c.vacate.ensures

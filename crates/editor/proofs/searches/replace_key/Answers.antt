@@ -1,5 +1,5 @@
 -- `replace_key` refuses exactly where FULL or LINE is due, and else substitutes, in QUOTED once the quotation was handed over as replacement.
-use mathlib.Core.Path.{sym, ◌∙◌}
+use mathlib.Core.Path.{sym, ◌∙◌, refl}
 use native.Mathlib.Omega.{arith}
 use Rattle.editor.specs.Rules.Bytes.{quarter}
 use Rattle.editor.proofs.Laws.Fitting.{fitting}
@@ -35,7 +35,7 @@ unfolding quarter
 returns-then-not-exchange_fits c =
     λ held sound. replace-refused quarter _ _ sound (stands_here quarter _ _ sound _ c.text_begins-here.ensures) _ c.replacement_taken-m.ensures
     c.exchange_fits.ensures
-    c.if-not-exchange_fits.true c.unedited.ensures
+    c.if-not-exchange_fits.true refl
 
 -- What the test of lines says, whatever the held text.
 pub exchange_readable-requires : goal.exchange_readable-requires
@@ -48,7 +48,7 @@ returns-then-not-exchange_readable c =
     λ held sound. replace-long quarter _ _ sound (stands_here quarter _ _ sound _ c.text_begins-here.ensures) _ c.replacement_taken-m.ensures
     c.exchange_fits.ensures
     c.if-not-exchange_fits.false (sym (c.exchange_readable.ensures _ held sound) ∙ c.if-not-exchange_readable.true)
-    c.unedited-then-not-exchange_readable.ensures
+    refl
 
 pub hand_quotation-requires : goal.hand_quotation-requires
 unfolding quarter

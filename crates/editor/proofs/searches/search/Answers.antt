@@ -1,5 +1,6 @@
 -- `search` is a move on the document's side by the distance that was found; where none was found, the move that only rings.
-use mathlib.Core.Path.{refl}
+use Rattle.editor.specs.Wording.Promise.{editor_done}
+use mathlib.Core.Path.{refl, ap}
 use native.Mathlib.Omega.{arith}
 use Rattle.editor.specs.Words.{Move, Main}
 use Rattle.editor.specs.Rules.Bytes.{quarter}
@@ -22,7 +23,7 @@ match_passage-requires c = c.requires.document.fits
 pub returns-in_default : goal.returns-in_default
 unfolding quarter
 returns-in_default c =
-    λ recall held sound. search-done quarter _ _ sound _ _ _ c.match_passage.ensures c.in_default.is _ _ _ _ c.edited.ensures
+    λ recall held sound. search-done quarter _ _ sound _ _ _ c.match_passage.ensures c.in_default.is _ _ _ _ refl
     (not_carried (on-side quarter _ _ sound Main) Move _ refl refl)
 
 pub move_side-t-requires : goal.move_side-t-requires
@@ -32,5 +33,5 @@ move_side-t-requires c =
 pub returns : goal.returns
 unfolding quarter
 returns c =
-    λ recall held sound. search-done quarter _ _ sound _ _ _ c.match_passage.ensures c.in-Some.is _ _ _ _ c.lifted.ensures
+    λ recall held sound. search-done quarter _ _ sound _ _ _ c.match_passage.ensures c.in-Some.is _ _ _ _ (ap editor_done c.lifted.ensures)
     (c.move_side-t.ensures _ _ (on-side quarter _ _ sound Main))

@@ -1,11 +1,11 @@
 -- `substitute` drops the pattern, places the replacement and gives the pattern to the recall store: a key on the document's side.
-use mathlib.Core.Path.{refl, sym, ◌∙◌}
+use mathlib.Core.Path.{refl, sym, ◌∙◌, ap}
 use native.Mathlib.Omega.{arith}
 use lib.ListN.{length-take, length-drop}
 use Rattle.editor.specs.Words.{Main}
 use Rattle.gap.specs.Rules.Layout.{unpair}
 use Rattle.editor.specs.Rules.Bytes.{quarter, plain_of}
-use Rattle.editor.specs.Wording.Promise.{stores}
+use Rattle.editor.specs.Wording.Promise.{stores, editor_done}
 use Rattle.editor.proofs.Laws.MarkedStates.{substituted-unheld, substituted-lines}
 use Rattle.editor.proofs.Laws.Replies.{on-side}
 use Rattle.editor.proofs.Laws.Fitting.{fitting}
@@ -14,7 +14,7 @@ use Rattle.editor.proofs.searches.substitute.Goals as goal
 
 pub returns-then-not-here : goal.returns-then-not-here
 unfolding plain_of
-returns-then-not-here c = λ held sound. substitute-rings quarter _ _ sound (sym c.requires.2.known ∙ c.if-not-here.true) c.edited.ensures refl
+returns-then-not-here c = λ held sound. substitute-rings quarter _ _ sound (sym c.requires.2.known ∙ c.if-not-here.true) refl refl
 
 pub overflow_add-end : goal.overflow_add-end
 unfolding quarter
@@ -95,4 +95,4 @@ returns c =
     let room = substituted-unheld _ _ (unpair _ _ kept) (plain_of quarter _ (stores _ _ c.requires.0 _)) ∙ c.requires.2.room in
     let lines = substituted-lines (unpair _ _ kept) (plain_of quarter _ (stores _ _ c.requires.0 _)) ∙ c.requires.2.lines in
     substitute-done quarter _ _ sound match room lines _ _ _ _ c.drop_right.ensures
-    c.place_pair.ensures c.hold.ensures c.lifted.ensures c.done.ensures refl
+    c.place_pair.ensures c.hold.ensures (ap editor_done c.lifted.ensures) refl refl

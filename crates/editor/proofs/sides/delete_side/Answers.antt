@@ -16,7 +16,7 @@ join_fits-requires c =
 pub returns-then-not-join_fits : goal.returns-then-not-join_fits
 returns-then-not-join_fits c =
     rw c.in-Left.is
-    (deleted-long c.requires.on_side Left _ _ c.refused.ensures (rw c.in-Left.is at c.requires.steps_bound)
+    (deleted-long c.requires.on_side Left _ _ refl (rw c.in-Left.is at c.requires.steps_bound)
     (sym c.join_fits.ensures ∙ c.if-not-join_fits.true))
 
 pub delete_left-requires : goal.delete_left-requires
@@ -38,7 +38,7 @@ join_fits-requires-in-Right c =
 pub returns-then-not-join_fits-2 : goal.returns-then-not-join_fits-2
 returns-then-not-join_fits-2 c =
     rw c.in-Right.is
-    (deleted-long c.requires.on_side Right _ _ c.refused-then-not-join_fits-2.ensures (rw c.in-Right.is at c.requires.steps_bound)
+    (deleted-long c.requires.on_side Right _ _ refl (rw c.in-Right.is at c.requires.steps_bound)
     (sym c.join_fits-in-Right.ensures ∙ c.if-not-join_fits-2.true))
 
 pub delete_right-requires : goal.delete_right-requires
@@ -52,11 +52,11 @@ overflow_sub-m-in-Right c = rw c.in-Right.is at c.requires.steps_bound
 pub returns-else-not-join_fits : goal.returns-else-not-join_fits
 returns-else-not-join_fits c =
     rw c.in-Left.is
-    (deleted c.requires.on_side Left c.done.ensures c.went.ensures (rw c.in-Left.is at c.requires.steps_bound)
+    (deleted c.requires.on_side Left refl c.went.ensures (rw c.in-Left.is at c.requires.steps_bound)
     (sym c.join_fits.ensures ∙ c.if-not-join_fits.false) refl c.delete_left.ensures.s_after c.delete_left.ensures.pair_after)
 
 pub returns-else-not-join_fits-2 : goal.returns-else-not-join_fits-2
 returns-else-not-join_fits-2 c =
     rw c.in-Right.is
-    (deleted c.requires.on_side Right c.done-in-Right.ensures c.went-in-Right.ensures (rw c.in-Right.is at c.requires.steps_bound)
+    (deleted c.requires.on_side Right refl c.went-in-Right.ensures (rw c.in-Right.is at c.requires.steps_bound)
     (sym c.join_fits-in-Right.ensures ∙ c.if-not-join_fits-2.false) refl c.delete_right.ensures.s_after c.delete_right.ensures.pair_after)

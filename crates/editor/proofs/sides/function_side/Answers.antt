@@ -6,7 +6,7 @@ use Rattle.editor.proofs.sides.function_side.Goals as goal
 pub returns-in_default : goal.returns-in_default
 returns-in_default c =
     by-passage c.requires _ _ _ c.place_passage.ensures c.in_default.is
-    (not_carried c.requires _ _ c.done.ensures refl)
+    (not_carried c.requires _ _ refl refl)
 
 pub carry_side-requires : goal.carry_side-requires
 carry_side-requires c = record { on_side = c.requires; steps_bound = within-room _ c.requires.gap _ _ c.place_passage.ensures c.in-Some.is }

@@ -4,13 +4,13 @@ use Rattle.editor.proofs.Laws.SideEdits.{insert-refused, insert-long, insert-don
 use Rattle.editor.proofs.sides.insert_side.Goals as goal
 
 pub returns-then-text-l : goal.returns-then-text-l
-returns-then-text-l c = λ recall on. insert-refused on _ c.refused.ensures c.if-text-l.true
+returns-then-text-l c = λ recall on. insert-refused on _ refl c.if-text-l.true
 
 pub returns-then-not-run_fits : goal.returns-then-not-run_fits
 returns-then-not-run_fits c =
-    λ recall on. insert-long on _ c.refused-then-not-run_fits.ensures c.if-text-l.false (sym c.run_fits.ensures ∙ c.if-not-run_fits.true)
+    λ recall on. insert-long on _ refl c.if-text-l.false (sym c.run_fits.ensures ∙ c.if-not-run_fits.true)
 
 pub returns : goal.returns
 returns c =
-    λ recall on. insert-done on _ c.done.ensures refl c.if-text-l.false (sym c.run_fits.ensures ∙ c.if-not-run_fits.false)
+    λ recall on. insert-done on _ refl refl c.if-text-l.false (sym c.run_fits.ensures ∙ c.if-not-run_fits.false)
     c.insert.ensures

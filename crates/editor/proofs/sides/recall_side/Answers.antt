@@ -6,7 +6,7 @@ use Rattle.editor.proofs.Laws.SideEdits.{recall-refused, recall-long, recall-don
 use Rattle.editor.proofs.sides.recall_side.Goals as goal
 
 pub returns-then-text-l : goal.returns-then-text-l
-returns-then-text-l c = recall-refused c.requires c.refused.ensures c.if-text-l.true
+returns-then-text-l c = recall-refused c.requires refl c.if-text-l.true
 
 pub pair_fits-requires : goal.pair_fits-requires
 pair_fits-requires c =
@@ -17,9 +17,9 @@ pair_fits-requires c =
 
 pub returns-then-not-pair_fits : goal.returns-then-not-pair_fits
 returns-then-not-pair_fits c =
-    recall-long c.requires c.refused-then-not-pair_fits.ensures c.if-text-l.false (sym c.pair_fits.ensures ∙ c.if-not-pair_fits.true)
+    recall-long c.requires refl c.if-text-l.false (sym c.pair_fits.ensures ∙ c.if-not-pair_fits.true)
 
 pub returns : goal.returns
 returns c =
-    recall-done c.requires c.done.ensures refl c.if-text-l.false (sym c.pair_fits.ensures ∙ c.if-not-pair_fits.false)
+    recall-done c.requires refl refl c.if-text-l.false (sym c.pair_fits.ensures ∙ c.if-not-pair_fits.false)
     c.place_pair.ensures
