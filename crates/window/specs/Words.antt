@@ -14,4 +14,3 @@ pub use Rattle.editor.specs.declared.Lengths.{Lengths}
 pub use Rattle.editor.specs.declared.Report.{Report}
 pub use Rattle.window.specs.declared.Frame.{Frame}
 pub use Rattle.window.specs.declared.Session.{Session}
-pub use Rattle.window.specs.declared.Answer.{Answer}

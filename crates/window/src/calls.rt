@@ -1,19 +1,19 @@
 // The opening call and the key call: every record, every five stores and every key get an answer.
 ghost use Rattle.std.specs.Prelude.{◌≡◌, true, ◌*◌, ◌≤◌, length};
 ghost use Rattle.editor.specs.Rules.Bytes.{quarter, sized};
-ghost use Rattle.editor.specs.Wording.Promise.{stores};
-ghost use Rattle.window.specs.Rules.Core.{rows_and_columns, tabled, refusal, opened_text};
+ghost use Rattle.editor.specs.Wording.Promise.{stores, editor_done};
+ghost use Rattle.window.specs.Rules.Core.{rows_and_columns, tabled, opened_text};
 ghost use Rattle.window.specs.Wording.Promise.{OpenPromise, KeyPromise};
-ghost use Rattle.window.specs.Wording.Calls.{newlines_left, session_test, Texts, lent, called, unopened_reply, turned_down_reply, Shows};
+ghost use Rattle.window.specs.Wording.Calls.{newlines_left, session_test, Texts, lent, called, accepted_reply, open_reply, key_reply, Shows};
 
 use crate::cursor::{cursor, follow, is_visible, newlines_left, newlines_now};
 use crate::painter::refresh;
-use crate::{Answer, Frame, Reply, Session};
+use crate::{Accepted, Frame, Session, Unopened};
 use editor::keys::press_session;
-use editor::records::{QUIET, opening_lengths};
-use editor::refusals::{LINE, LONG, SESSION, SIZE, TEXT};
+use editor::records::QUIET;
+use editor::refusals::Refusal;
 use editor::stores::{editor_ok, open_stores, sized_stores};
-use editor::{EditorReply, Key, LONGEST_LINE, QUARTER};
+use editor::{EditorDone, Key, LONGEST_LINE, QUARTER};
 use gap::line_limits::long_line;
 use gap::sound::bad_byte;
 
@@ -68,51 +68,6 @@ pub fn session_test(
     Some(above)
 }
 
-// ---- Answers
-
-// A refusal.
-pub fn refusal(code: usize, place: usize) -> Answer
-    ensures { result ≡ refusal code place }
-{
-    Answer {
-        code: code,
-        place: place,
-        report: QUIET,
-        first: 0,
-        last: 0,
-        row: 0,
-        column: 0,
-    }
-}
-
-// A refused opening: a record of zeros with no mark.
-fn unopened(code: usize, place: usize) -> Reply
-    ensures { result ≡ unopened_reply code place }
-{
-    Reply {
-        answer: refusal(code, place),
-        session: Session {
-            lengths: opening_lengths(0),
-            frame: Frame {
-                r: 0,
-                c: 0,
-                h: 0,
-                w: 0,
-            },
-        },
-    }
-}
-
-// A refused key: the record as it was.
-fn turned_down(code: usize, s: Session) -> Reply
-    ensures { result ≡ turned_down_reply code s }
-{
-    Reply {
-        answer: refusal(code, 0),
-        session: s,
-    }
-}
-
 // ---- Opening
 
 // A text that is sound becomes the document; everything else is emptied, and the screen is painted whole.
@@ -125,34 +80,22 @@ fn open_sound(
     held: &mut [u8],
     side: &mut [u8],
     screen: &mut [u8],
-) -> Reply
+) -> Accepted
     requires screen_value { tabled h w (lent text.old recall.old held.old side.old screen.old) ≡ true }
     requires n_in_bounds { n ≤ length text.old }
-    ensures { called result (lent text.new recall.new held.new side.new screen.new)
+    ensures { called (accepted_reply result) (lent text.new recall.new held.new side.new screen.new)
         ≡ opened_text n h w (lent text.old recall.old held.old side.old screen.old) }
 {
-    let frame = Frame {
-        r: 0,
-        c: 0,
-        h: h,
-        w: w,
-    };
+    let frame = Frame { r: 0, c: 0, h, w };
     let lengths = open_stores(n, text, recall, held, side);
     refresh(lengths, frame, text, side, screen);
-    Reply {
-        answer: Answer {
-            code: 0,
-            place: 0,
-            report: QUIET,
-            first: 1,
-            last: h,
-            row: 1,
-            column: 0,
-        },
-        session: Session {
-            lengths: lengths,
-            frame: frame,
-        },
+    Accepted {
+        report: QUIET,
+        first: 1,
+        last: h,
+        row: 1,
+        column: 0,
+        session: Session { lengths, frame },
     }
 }
 
@@ -166,23 +109,23 @@ pub fn open(
     held: &mut [u8],
     side: &mut [u8],
     screen: &mut [u8],
-) -> Reply
+) -> Result<Accepted, Unopened>
     ensures { OpenPromise n h w (lent text.old recall.old held.old side.old screen.old)
-        (called result (lent text.new recall.new held.new side.new screen.new)) }
+        (called (open_reply result) (lent text.new recall.new held.new side.new screen.new)) }
 {
     if !tabled_stores(h, w, text, recall, held, side, screen) {
-        return unopened(SIZE, 0);
+        return Err(Unopened::Size);
     }
     if text.len() < n {
-        return unopened(LONG, 0);
+        return Err(Unopened::Long);
     }
-    match bad_byte(&text[..n]) {
-        Some(i) => unopened(TEXT, i),
-        None => match long_line(LONGEST_LINE, &text[..n]) {
-            Some(i) => unopened(LINE, i),
-            None => open_sound(n, h, w, text, recall, held, side, screen),
-        },
+    if let Some(i) = bad_byte(&text[..n]) {
+        return Err(Unopened::Text(i));
     }
+    if let Some(i) = long_line(LONGEST_LINE, &text[..n]) {
+        return Err(Unopened::Line(i));
+    }
+    Ok(open_sound(n, h, w, text, recall, held, side, screen))
 }
 
 // ---- A key
@@ -191,35 +134,27 @@ pub fn open(
 fn show(
     f: Frame,
     above: usize,
-    done: EditorReply,
+    done: EditorDone,
     text: &[u8],
     side: &[u8],
     screen: &mut [u8],
-) -> Reply
+) -> Accepted
     requires texts { Texts done.lengths text.now side.now }
     requires above_value { above ≡ newlines_left done.lengths.main.l text.now }
     requires w_value { (rows_and_columns f.h f.w ≡ true) × (length screen.old ≡ f.h * f.w) }
-    ensures { Shows result f done text.now side.now screen.old screen.new }
+    ensures { Shows (accepted_reply result) f (editor_done done) text.now side.now screen.old screen.new }
 {
     let lengths = done.lengths;
-    let report = done.report;
     let spot = cursor(above, lengths, text, side);
     let g = follow(f, spot);
     let rows = refresh(lengths, g, text, side, screen);
-    Reply {
-        answer: Answer {
-            code: 0,
-            place: 0,
-            report: report,
-            first: rows.first,
-            last: rows.last,
-            row: spot.row - g.r,
-            column: spot.column - g.c,
-        },
-        session: Session {
-            lengths: lengths,
-            frame: g,
-        },
+    Accepted {
+        report: done.report,
+        first: rows.first,
+        last: rows.last,
+        row: spot.row - g.r,
+        column: spot.column - g.c,
+        session: Session { lengths, frame: g },
     }
 }
 
@@ -232,25 +167,21 @@ pub fn press(
     held: &mut [u8],
     side: &mut [u8],
     screen: &mut [u8],
-) -> Reply
+) -> Result<Accepted, Refusal>
     ensures { KeyPromise s k (lent text.old recall.old held.old side.old screen.old)
-        (called result (lent text.new recall.new held.new side.new screen.new)) }
+        (called (key_reply s result) (lent text.new recall.new held.new side.new screen.new)) }
 {
     let lengths = s.lengths;
     let frame = s.frame;
     let h = frame.h;
     let w = frame.w;
     if !tabled_stores(h, w, text, recall, held, side, screen) {
-        return turned_down(SIZE, s);
+        return Err(Refusal::Size);
     }
     let Some(above) = session_test(QUARTER, s, text, recall, held, side) else {
-        return turned_down(SESSION, s);
+        return Err(Refusal::Session);
     };
-    let done = press_session(lengths, k, text, recall, held, side);
-    let code = done.code;
-    if 0 < code {
-        return turned_down(code, s);
-    }
+    let done = press_session(lengths, k, text, recall, held, side)?;
     let below = newlines_now(k, above, lengths.main, done, text);
-    show(frame, below, done, text, side, screen)
+    Ok(show(frame, below, done, text, side, screen))
 }

@@ -2,13 +2,13 @@
 ghost use Rattle.std.specs.Prelude.{◌≡◌};
 ghost use Rattle.editor.specs.Wording.Promise.{stores};
 ghost use Rattle.window.specs.Rules.Conversion.{convertible};
-ghost use Rattle.window.specs.Wording.Conversion.{conversion, answered_reply, ConvertPromise};
+ghost use Rattle.window.specs.Wording.Conversion.{conversion, convert_reply, ConvertPromise};
 
-use crate::calls::{refusal, rows_and_columns, session_test};
-use crate::{Reply, Session};
+use crate::Session;
+use crate::calls::{rows_and_columns, session_test};
 use editor::QUARTER;
 use editor::conversion::{OLD_QUARTER, lengthen};
-use editor::refusals::{SESSION, SIZE};
+use editor::refusals::Refusal;
 use editor::stores::sized_stores;
 
 // The old stores have the old lengths, the new side store has the new one, and H and W are as tabled.
@@ -27,17 +27,8 @@ pub fn convertible_stores(
         & (rows_and_columns(h, w) & (side.len() == 4 * QUARTER))
 }
 
-// The number alone, with the record as it was.
-fn answered(code: usize, s: Session) -> Reply
-    ensures { result ≡ answered_reply code s }
-{
-    Reply {
-        answer: refusal(code, 0),
-        session: s,
-    }
-}
-
-// The conversion: SIZE, SESSION by the old rule, or the same plain state in the new side store. Everything else is only read.
+// The conversion: SIZE, SESSION by the old rule, or the same plain state in the new side store. Everything else is only read, and the record
+// stays as it is.
 pub fn convert(
     s: Session,
     text: &[u8],
@@ -45,9 +36,9 @@ pub fn convert(
     held: &[u8],
     old: &[u8],
     side: &mut [u8],
-) -> Reply
+) -> Result<(), Refusal>
     ensures { ConvertPromise s (stores text.now recall.now held.now old.now) side.old
-        (conversion result side.new) }
+        (conversion (convert_reply s result) side.new) }
 {
     let lengths = s.lengths;
     let quoted = lengths.quoted;
@@ -55,11 +46,11 @@ pub fn convert(
     let h = frame.h;
     let w = frame.w;
     if !convertible_stores(h, w, text, recall, held, old, side) {
-        return answered(SIZE, s);
+        return Err(Refusal::Size);
     }
     let Some(_) = session_test(OLD_QUARTER, s, text, recall, held, old) else {
-        return answered(SESSION, s);
+        return Err(Refusal::Session);
     };
     lengthen(quoted.l, quoted.r, old, side);
-    answered(0, s)
+    Ok(())
 }

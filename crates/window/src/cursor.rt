@@ -6,7 +6,7 @@ ghost use Rattle.window.specs.Rules.Window.{policy_row, policy_column};
 ghost use Rattle.window.specs.Wording.Calls.{newlines_left, LeftCounted, visible_at, policy_at, HasTexts, IsSpot};
 
 use crate::{Frame, Spot};
-use editor::{EditorReply, Key, Lengths, Mode, Sizes};
+use editor::{EditorDone, Key, Lengths, Mode, Sizes};
 use gap::lines::{count_newlines, since_newline};
 
 // The newlines left of the document's cursor.
@@ -21,7 +21,7 @@ pub fn newlines_left(n: Lengths, text: &[u8]) -> usize
 
 // The same after a key: with the lines that it reports, or without them. Where it reports none they are counted in what the text left of the
 // cursor has gained.
-pub fn newlines_after(above: usize, was: Sizes, done: EditorReply, text: &[u8]) -> usize
+pub fn newlines_after(above: usize, was: Sizes, done: EditorDone, text: &[u8]) -> usize
     requires l_in_bounds { done.lengths.main.l ≤ length text.now }
     requires left_counted { LeftCounted above was.l done.lengths.main.l done.report.lines text.now }
     ensures { result ≡ newlines_left done.lengths.main.l text.now }
@@ -61,7 +61,7 @@ fn is_cut(k: Key) -> bool
 }
 
 // So after CUT the newlines left of the cursor are counted anew.
-pub fn newlines_now(k: Key, above: usize, was: Sizes, done: EditorReply, text: &[u8]) -> usize
+pub fn newlines_now(k: Key, above: usize, was: Sizes, done: EditorDone, text: &[u8]) -> usize
     requires l_in_bounds { done.lengths.main.l ≤ length text.now }
     requires left_counted { cuts k ≡ false → LeftCounted above was.l done.lengths.main.l done.report.lines text.now }
     ensures { result ≡ newlines_left done.lengths.main.l text.now }

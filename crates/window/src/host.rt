@@ -1,7 +1,8 @@
 // The host's boundary: the calls for programs in C or Rust, with record, key and answer as numbers. Nothing is asked beforehand; what is
 // trusted is that each pointer is that of as many bytes as its length says, that no two overlap, and that none is null.
 ghost use Rattle.std.specs.Prelude.{◌≡◌};
-ghost use Rattle.window.specs.Wording.Calls.{lent};
+ghost use Rattle.editor.specs.Rules.Refusals.{number};
+ghost use Rattle.window.specs.Wording.Calls.{lent, accepted_reply, unopened_of};
 ghost use Rattle.window.specs.Rules.Core.{refusal};
 ghost use Rattle.window.specs.Wording.Promise.{HostOpenPromise, HostKeyPromise, SendPromise};
 ghost use Rattle.window.specs.Wording.Writing.{outcome_of};
@@ -11,8 +12,8 @@ ghost use Rattle.window.specs.Rules.Host.{numbers_of, said_of, given};
 use crate::calls::{open, press, tabled_stores};
 use crate::host_keys::key_from;
 use crate::sender::{Update, send};
-use crate::{Frame, Reply, Sending, Session};
-use editor::refusals::{SESSION, SIZE};
+use crate::{Accepted, Frame, Sending, Session, Unopened};
+use editor::refusals::Refusal;
 use editor::{Lengths, Mode, Sizes};
 use gap::numbers::bit_of;
 
@@ -175,37 +176,36 @@ fn record_from(s: Session) -> Record
     }
 }
 
-// The reply in numbers.
-pub fn in_numbers(r: Reply) -> HostReply
-    ensures { result ≡ numbers_of r }
+// An accepted call in numbers.
+pub fn in_numbers(accepted: Accepted) -> HostReply
+    ensures { result ≡ numbers_of (accepted_reply accepted) }
 {
-    let answer = r.answer;
-    let session = r.session;
-    let report = answer.report;
+    let report = accepted.report;
+    let session = accepted.session;
     HostReply {
         said: Said {
-            code: answer.code,
-            place: answer.place,
+            code: 0,
+            place: 0,
             steps: report.steps,
             lines: report.lines,
             bell: bit_of(report.bell),
-            first: answer.first,
-            last: answer.last,
-            row: answer.row,
-            column: answer.column,
+            first: accepted.first,
+            last: accepted.last,
+            row: accepted.row,
+            column: accepted.column,
         },
         back: record_from(session),
     }
 }
 
-// A refusal that hands the record back number for number.
-pub fn refusal_of(code: usize, n: Record) -> HostReply
-    ensures { result ≡ record { said = said_of (refusal code 0); back = n } }
+// An answer that has nothing but a code and a place, with the record handed back number for number.
+pub fn bare(code: usize, place: usize, n: Record) -> HostReply
+    ensures { result ≡ record { said = said_of (refusal code place); back = n } }
 {
     HostReply {
         said: Said {
-            code: code,
-            place: 0,
+            code,
+            place,
             steps: 0,
             lines: 0,
             bell: 0,
@@ -216,6 +216,48 @@ pub fn refusal_of(code: usize, n: Record) -> HostReply
         },
         back: n,
     }
+}
+
+// A record of zeros with no mark.
+const ZEROS: Record = Record {
+    l: 0,
+    r: 0,
+    ql: 0,
+    qr: 0,
+    rl: 0,
+    rr: 0,
+    qrl: 0,
+    qrr: 0,
+    xl: 0,
+    xr: 0,
+    pl: 0,
+    mode: 0,
+    top: 0,
+    left: 0,
+    rows: 0,
+    columns: 0,
+    hl: 0,
+    hr: 0,
+    mark: NO_MARK,
+};
+
+// A refused opening.
+fn unopened(why: Unopened) -> HostReply
+    ensures { result ≡ numbers_of (unopened_of why) }
+{
+    match why {
+        Unopened::Size => bare(Refusal::Size.number(), 0, ZEROS),
+        Unopened::Long => bare(Refusal::Long.number(), 0, ZEROS),
+        Unopened::Text(place) => bare(Refusal::Text.number(), place, ZEROS),
+        Unopened::Line(place) => bare(Refusal::Line.number(), place, ZEROS),
+    }
+}
+
+// A refusal with the record as it was.
+pub fn refused(why: Refusal, n: Record) -> HostReply
+    ensures { result ≡ record { said = said_of (refusal (number why) 0); back = n } }
+{
+    bare(why.number(), 0, n)
 }
 
 // ---- The calls
@@ -235,7 +277,10 @@ pub fn chidukwore_open(
         (lent text.old recall.old held.old side.old screen.old)
         (given result (lent text.new recall.new held.new side.new screen.new)) }
 {
-    in_numbers(open(n, rows, columns, text, recall, held, side, screen))
+    match open(n, rows, columns, text, recall, held, side, screen) {
+        Ok(accepted) => in_numbers(accepted),
+        Err(why) => unopened(why),
+    }
 }
 
 // Presses a key.
@@ -260,19 +305,15 @@ pub fn chidukwore_key(
     let columns = n.columns;
     if 1 < mode {
         if tabled_stores(rows, columns, text, recall, held, side, screen) {
-            return refusal_of(SESSION, n);
+            return refused(Refusal::Session, n);
         }
-        return refusal_of(SIZE, n);
+        return refused(Refusal::Size, n);
     }
-    in_numbers(press(
-        session_from(n),
-        key_from(kind, a, b, c),
-        text,
-        recall,
-        held,
-        side,
-        screen,
-    ))
+    let k = key_from(kind, a, b, c);
+    match press(session_from(n), k, text, recall, held, side, screen) {
+        Ok(accepted) => in_numbers(accepted),
+        Err(why) => refused(why, n),
+    }
 }
 
 // Writes the bytes that bring a terminal up to date.

@@ -6,8 +6,8 @@ ghost use Rattle.window.specs.Rules.HostConversion.{handed_back};
 ghost use Rattle.window.specs.Wording.Conversion.{HostConvertPromise};
 
 use crate::conversion::{convert, convertible_stores};
-use crate::host::{HostReply, Record, in_numbers, refusal_of, session_from};
-use editor::refusals::{SESSION, SIZE};
+use crate::host::{HostReply, Record, bare, refused, session_from};
+use editor::refusals::Refusal;
 
 // Converts an old session: its stores are only read, and the new side store is written.
 pub fn chidukwore_convert(
@@ -26,9 +26,12 @@ pub fn chidukwore_convert(
     let columns = n.columns;
     if 1 < mode {
         if convertible_stores(rows, columns, text, recall, held, old, side) {
-            return refusal_of(SESSION, n);
+            return refused(Refusal::Session, n);
         }
-        return refusal_of(SIZE, n);
+        return refused(Refusal::Size, n);
     }
-    in_numbers(convert(session_from(n), text, recall, held, old, side))
+    match convert(session_from(n), text, recall, held, old, side) {
+        Ok(()) => bare(0, 0, n),
+        Err(why) => refused(why, n),
+    }
 }

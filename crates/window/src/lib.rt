@@ -56,23 +56,24 @@ pub struct Rows {
     pub last: usize,
 }
 
-// What a call answers.
+// What an accepted call answers: its report, the named rows, 0 and 0 for none, where on the screen the cursor is, and the record.
 #[derive(Clone, Copy)]
-pub struct Answer {
-    pub code: usize,
-    pub place: usize,
+pub struct Accepted {
     pub report: Report,
     pub first: usize,
     pub last: usize,
     pub row: usize,
     pub column: usize,
+    pub session: Session,
 }
 
-// The answer with the record handed back.
-#[derive(Clone, Copy)]
-pub struct Reply {
-    pub answer: Answer,
-    pub session: Session,
+// Why an opening is refused: for TEXT and LINE with the place.
+#[derive(Clone, Copy, PartialEq, Eq, Debug)]
+pub enum Unopened {
+    Size,
+    Long,
+    Text(usize),
+    Line(usize),
 }
 
 // What the routine for terminals answers: 0 or a refusal, the place of TEXT, and how many bytes it wrote.

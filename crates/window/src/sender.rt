@@ -1,5 +1,6 @@
 // The routine that brings a terminal up to date: what is wrong is refused, and then nothing is written.
 ghost use Rattle.std.specs.Prelude.{◌≡◌};
+ghost use Rattle.editor.specs.Rules.Refusals.{number};
 ghost use Rattle.window.specs.Rules.Sequences.{sent_screen};
 ghost use Rattle.window.specs.Rules.Sending.{rows_on, cursor_on, sendable, sent_into};
 ghost use Rattle.window.specs.Wording.Promise.{SendPromise};
@@ -9,7 +10,7 @@ use crate::Sending;
 use crate::calls::rows_and_columns;
 use crate::sequences::{sent_column, sent_size};
 use crate::writer::write_screen;
-use editor::refusals::{ROOM, SIZE, TEXT};
+use editor::refusals::Refusal;
 use gap::sound::bad_cell;
 
 // What a terminal is brought up to date with: the named rows, first and last, and the cursor, as a call answers them.
@@ -46,11 +47,11 @@ fn is_sendable(h: usize, w: usize, u: Update, screen: &[u8]) -> bool
 }
 
 // A refusal.
-fn unsent(code: usize, place: usize) -> Sending
-    ensures { result ≡ record { code = code; place = place; count = 0 } }
+fn unsent(why: Refusal, place: usize) -> Sending
+    ensures { result ≡ record { code = number why; place = place; count = 0 } }
 {
     Sending {
-        code: code,
+        code: why.number(),
         place: place,
         count: 0,
     }
@@ -64,7 +65,7 @@ fn send_counted(w: usize, u: Update, screen: &[u8], out: &mut [u8]) -> Sending
 {
     let size = sent_size(w, u.first, u.last, u.row, u.column);
     if out.len() < size {
-        return unsent(ROOM, 0);
+        return unsent(Refusal::Room, 0);
     }
     let column = sent_column(w, u.column);
     let count = write_screen(w, u.first, u.last, u.row, column, screen, out);
@@ -81,10 +82,10 @@ pub fn send(h: usize, w: usize, u: Update, screen: &[u8], out: &mut [u8]) -> Sen
         (outcome_of result out.new) }
 {
     if !is_sendable(h, w, u, screen) {
-        return unsent(SIZE, 0);
+        return unsent(Refusal::Size, 0);
     }
     let Some(i) = bad_cell(screen) else {
         return send_counted(w, u, screen, out);
     };
-    unsent(TEXT, i)
+    unsent(Refusal::Text, i)
 }

@@ -11,7 +11,7 @@ use Rattle.gap.specs.Wording.Written.{Wrote}
 use Rattle.gap.proofs.Laws.Tests.{cond-true, cond-false, and_left, and_right}
 use Rattle.editor.specs.declared.Key.{Key}
 use Rattle.window.specs.declared.Session.{Session}
-use Rattle.window.specs.declared.Answer.{Answer as Said}
+use Rattle.window.specs.Rules.Core.{Answer as Said}
 use Rattle.window.specs.Rules.Core.{Lent, Called, tabled, opened, keyed}
 use Rattle.window.proofs.Laws.Views.{tabled-facts}
 use Rattle.window.proofs.Theorems.Refusals.{opening-accepted, key-accepted}

@@ -18,7 +18,7 @@ use Rattle.gap.proofs.Laws.Sequence.{length_part}
 use Rattle.gap.proofs.Laws.Runs.{part-lent}
 use Rattle.gap.proofs.Laws.Writers.{wrote_none, then, wrote-length}
 use Rattle.window.proofs.Laws.Paint.{row_fits}
-use Rattle.window.specs.declared.Answer.{Answer}
+use Rattle.window.specs.Rules.Core.{Answer}
 use Rattle.bench.specs.Rules.Print.{rows_of, accepted_block}
 use Rattle.bench.specs.Wording.Turns.{Printable}
 

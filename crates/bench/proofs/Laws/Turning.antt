@@ -12,7 +12,7 @@ use Rattle.gap.specs.Wording.Written.{Wrote}
 use Rattle.gap.proofs.Laws.Writers.{wrote_none, wrote-length}
 use Rattle.editor.specs.declared.Key.{Key}
 use Rattle.window.specs.declared.Session.{Session}
-use Rattle.window.specs.declared.Reply.{Reply}
+use Rattle.window.specs.Rules.Core.{Reply}
 use Rattle.window.specs.Rules.Core.{Lent, Called, opened, keyed}
 use Rattle.window.specs.Wording.Calls.{lent, called}
 use Rattle.bench.specs.Words.{Header, Pressed, Finished, Unknown}

@@ -8,7 +8,7 @@ use Rattle.gap.specs.Rules.Strings.{bytes}
 use Rattle.gap.specs.Rules.Numbers.{bit}
 use Rattle.gap.specs.Rules.Decimal.{digits_in, decimal}
 use Rattle.gap.specs.Rules.Fields.{entry}
-use Rattle.window.specs.declared.Answer.{Answer}
+use Rattle.window.specs.Rules.Core.{Answer}
 use Rattle.bench.specs.Rules.Print.{rows_of, accepted_block, refused_block, script_line}
 
 -- All H rows, each of W cells.

@@ -17,7 +17,7 @@ use Rattle.gap.specs.Rules.Fields.{next_at, header_at, entry}
 use Rattle.gap.specs.Tables.Sentence.{all_of, broken, itself}
 use Rattle.gap.proofs.Laws.Tests.{cond-true, cond-false}
 use Rattle.editor.specs.Rules.Bytes.{quarter}
-use Rattle.window.specs.declared.Answer.{Answer}
+use Rattle.window.specs.Rules.Core.{Answer}
 use Rattle.window.specs.Rules.Core.{Lent, rows_and_columns}
 use Rattle.bench.specs.Words.{Right, Move, LineEnding, Header, Heading, Headed, Broken}
 use Rattle.bench.specs.Words.{Insert, Named, Unnamed, Entry}

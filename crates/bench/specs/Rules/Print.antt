@@ -4,7 +4,7 @@ use Rattle.gap.specs.Rules.Strings.{bytes}
 use Rattle.gap.specs.Rules.Lines.{newline}
 use Rattle.gap.specs.Rules.Numbers.{bit}
 use Rattle.gap.specs.Rules.Fields.{entry}
-use Rattle.window.specs.declared.Answer.{Answer}
+use Rattle.window.specs.Rules.Core.{Answer}
 
 -- H entries of W cells each, trailing spaces included.
 unfoldable pub rows_of : ℕ → ℕ → List ℕ → List ℕ

@@ -3,7 +3,7 @@ use Rattle.std.specs.Prelude.{List, [], ◌∷◌, Bool, true, false, ℕ}
 use Rattle.gap.specs.Rules.Strings.{bytes}
 use Rattle.gap.specs.Tables.Sentence.{Sentence, sentence}
 use Rattle.gap.specs.Tables.Written.{is_bytes}
-use Rattle.window.specs.declared.Answer.{Answer}
+use Rattle.window.specs.Rules.Core.{Answer}
 use Rattle.bench.specs.Rules.Print.{block, script_line}
 
 -- An answer whose numbers all differ.

@@ -3,7 +3,7 @@ use Rattle.std.specs.Prelude.{◌≡◌, ◌≤◌, ◌<◌, List, Bool, true, �
 use Rattle.bench.specs.Words.{Header}
 use Rattle.gap.specs.Wording.Written.{Wrote}
 use Rattle.editor.specs.Rules.Bytes.{quarter}
-use Rattle.window.specs.declared.Reply.{Reply}
+use Rattle.window.specs.Rules.Core.{Reply}
 use Rattle.window.specs.Rules.Core.{Lent}
 use Rattle.bench.specs.declared.Turn.{Turn}
 use Rattle.bench.specs.Rules.Print.{block}

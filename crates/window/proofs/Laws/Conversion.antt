@@ -14,7 +14,7 @@ use Rattle.editor.specs.Wording.Conversion.{lengthened}
 use Rattle.editor.proofs.Laws.Fitting.{fitting}
 use Rattle.editor.proofs.Laws.Conversion.{old-shorter, lengthened-converts}
 use Rattle.window.specs.Words.{Session}
-use Rattle.window.specs.declared.Reply.{Reply}
+use Rattle.window.specs.Rules.Core.{Reply}
 use Rattle.window.specs.declared.host.Record.{Record}
 use Rattle.window.specs.declared.host.HostReply.{HostReply}
 use Rattle.window.specs.Rules.Core.{refusal, rows_and_columns, session_in}

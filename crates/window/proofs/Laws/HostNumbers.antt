@@ -1,16 +1,17 @@
 -- What the host is given, in numbers, is what the core's calls give.
 use Rattle.std.specs.Prelude.{Bool, cond, ℕ}
-use mathlib.Core.Path.{◌≡◌, ap, ◌∙◌}
+use mathlib.Core.Path.{◌≡◌, ap, sym, ◌∙◌}
 use Prim.Native.Nat.{◌≤◌, ◌<◌}
 use borrow.Author.Tests.{le-leb, lt-leb}
 use Rattle.editor.specs.Rules.Refusals.{SIZE, SESSION}
 use Rattle.window.specs.Words.{Session, Key}
-use Rattle.window.specs.declared.Reply.{Reply}
+use Rattle.window.specs.Rules.Core.{Reply}
 use Rattle.window.specs.declared.host.Record.{Record}
 use Rattle.window.specs.declared.host.HostReply.{HostReply}
 use Rattle.window.specs.Rules.Core.{Lent, refusal, tabled, opened, keyed}
-use Rattle.window.specs.Wording.Calls.{called}
-use Rattle.window.specs.Rules.Host.{session_from, key_from, said_of, given, numbers_of, given_of, host_opened, host_keyed}
+use Rattle.window.specs.Wording.Calls.{called, turned_down_reply}
+use Rattle.window.specs.Rules.Host.{session_from, record_from, key_from, said_of, given, numbers_of, given_of, host_opened, host_keyed}
+use Rattle.window.proofs.Theorems.OverAndBack.{record-over}
 
 module _ {q : HostReply} (r : Reply) (now : Lent) (same : q ≡ numbers_of r) where
   pub opened-given : (n H W : ℕ) (b : Lent) → called r now ≡ opened n H W b → given q now ≡ host_opened n H W b
@@ -25,6 +26,13 @@ module _ {q : HostReply} (r : Reply) (now : Lent) (same : q ≡ numbers_of r) wh
   unfolding host_keyed
   keyed-given n kind a b c before mode s k e =
       rw (le-leb _ _ mode, ← s, ← k) (ap (λ q. given q now) same ∙ ap given_of e)
+
+-- A refused key hands the numbers back as they were.
+pub refused-numbers : {q : HostReply} (n : Record) (code : ℕ) {s : Session} → n.mode ≤ 1 → s ≡ session_from n
+    → q ≡ record { said = said_of (refusal code 0); back = n } → q ≡ numbers_of (turned_down_reply code s)
+refused-numbers n code mode is same =
+    same
+    ∙ λ i. record { said = said_of (refusal code 0); back = (sym ((record-over n).1 mode) ∙ ap record_from (sym is)) i }
 
 -- Any other is refused, by whether the stores are as tabled.
 pub no-mode-given :

@@ -28,7 +28,7 @@ use Rattle.editor.proofs.Laws.Fitting.{fitting}
 use Rattle.window.specs.Words.{Lengths, Frame, Session, Key, Mode, Main, Quoted, Report}
 use Rattle.window.specs.declared.Spot.{Spot}
 use Rattle.window.specs.declared.Rows.{Rows}
-use Rattle.window.specs.declared.Reply.{Reply}
+use Rattle.window.specs.Rules.Core.{Reply}
 use Rattle.window.specs.Rules.Window.{virtual, virtual_in, row_of, column_of, window, visible, policy}
 use Rattle.window.specs.Rules.Core.{Lent, Called, T, rows_and_columns, tabled, session_in, is_session, shown, finished, keyed, held, lent_of}
 use Rattle.window.specs.Rules.Rows.{first_row, last_row}

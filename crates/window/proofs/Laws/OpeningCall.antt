@@ -23,7 +23,7 @@ use Rattle.editor.specs.Wording.Promise.{stores, Opens}
 use Rattle.editor.proofs.Laws.Session.{measured}
 use Rattle.window.specs.Words.{Lengths}
 use Rattle.window.specs.declared.Rows.{Rows}
-use Rattle.window.specs.declared.Reply.{Reply}
+use Rattle.window.specs.Rules.Core.{Reply}
 use Rattle.window.specs.Rules.Window.{virtual_in, window, visible}
 use Rattle.window.specs.Wording.Painter.{Canvas}
 use Rattle.window.specs.Rules.Core.{Lent, Called, T, tabled, start, opened_text, bad_byte, bad_line, unless_at, opened}

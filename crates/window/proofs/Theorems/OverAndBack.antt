@@ -9,11 +9,12 @@ use lib.Dec.{eqb, leb}
 use borrow.Author.Tests.{leb-true, lt-leb, eqb-true, eq-eqb, ne_eqb}
 use Rattle.gap.proofs.Laws.Tests.{decided, clash, and_left, and_right, and_both, cond-true, cond-false}
 use Rattle.gap.specs.Rules.Numbers.{bit}
-use Rattle.window.specs.Words.{Mode, Main, Quoted, Session, Answer, Direction, Left, Right, Action, Move, Delete}
+use Rattle.window.specs.Words.{Mode, Main, Quoted, Session, Direction, Left, Right, Action, Move, Delete}
 use Rattle.window.specs.Words.{Place, Character, Word, LineBeginning, LineEnding, Document}
 use Rattle.window.specs.Words.{Key, Insert, Function, Recall, Quote, Find, Replace, Mark, Cut, Paste, Newline, Tab}
 use Rattle.window.specs.declared.host.Record.{Record}
 use Rattle.window.specs.declared.host.Said.{Said}
+use Rattle.window.specs.Rules.Core.{Answer}
 use Rattle.window.specs.Rules.Host.{mode_of, mode_number, no_mark, mark_from, mark_number, session_from, record_from, said_of, answer_from, none}
 use Rattle.window.specs.Rules.Host.{action_from, direction_from, place_from, function_from, key_from, KeyNumbers, key_of, names, looked_at}
 use Rattle.window.specs.Rules.Host.{action_number, direction_number, place_number, numbers, numbers_of_key, of_byte}

@@ -24,10 +24,10 @@ use Rattle.editor.specs.Rules.Plain.{quiet, reporting}
 use Rattle.editor.specs.Rules.Marks.{mark_through}
 use Rattle.editor.specs.Rules.Keys.{sound_key, inserted, carried, function, on_side, acted, change_of, pressed, fits, bounded, key, Unsound}
 use Rattle.editor.specs.Rules.Bytes.{quarter, sized, plain_of, lengths_of, stores_of, editor_ok}
-use Rattle.window.specs.Words.{Direction, Action, Place, Session, Answer, Key, Insert, Function}
+use Rattle.window.specs.Words.{Direction, Action, Place, Session, Key, Insert, Function}
 use Rattle.window.specs.Rules.Window.{virtual_in, row_cells, joined, window, visible, policy}
 use Rattle.window.specs.Rules.Rows.{first_row, last_row}
-use Rattle.window.specs.Rules.Core.{Lent, Called, T, held, turned_down, unopened, tabled, is_session, opened_text, opened, shown, finished, keyed}
+use Rattle.window.specs.Rules.Core.{Lent, Answer, Called, T, held, turned_down, unopened, tabled, is_session, opened_text, opened, shown, finished, keyed}
 use Rattle.window.specs.Rules.Terminal.{Bench, opened_bench, given, repaint, opening_view, viewed, picture}
 use Rattle.window.specs.Wording.Promise.{BenchRun, at-end, press}
 use Rattle.window.specs.Wording.Demands.{OnSession, text_in, Opens, Presses, OpensWell, PressesWell}

@@ -1,11 +1,11 @@
 -- Request M-109: the conversion of an old session, as a total function on any record, any old stores and any new side store.
 use Rattle.std.specs.Prelude.{List, [], ◌∷◌, Bool, ◌&&◌, ℕ, ◌*◌, eqb, length}
 use Rattle.gap.specs.Rules.Checks.{Check, check, unless}
-use Rattle.window.specs.Words.{Session, Answer}
+use Rattle.window.specs.Words.{Session}
 use Rattle.editor.specs.Rules.Refusals.{SIZE, SESSION}
 use Rattle.editor.specs.Rules.Bytes.{Stores, quarter, sized}
 use Rattle.editor.specs.Rules.Conversion.{old_quarter, converted_side}
-use Rattle.window.specs.Rules.Core.{rows_and_columns, session_in, refusal}
+use Rattle.window.specs.Rules.Core.{Answer, rows_and_columns, session_in, refusal}
 
 -- The old stores by the old table, H and W by theirs, and the new side store by the new table; no screen is lent. (02, M-109: SIZE. DECISIONS C36.)
 unfoldable pub convertible : ℕ → ℕ → Stores → List ℕ → Bool

@@ -1,7 +1,7 @@
 -- The core: opening and the key call as total functions on any record and any five stores.
 use Rattle.std.specs.Prelude.{List, [], ◌∷◌, Bool, not, ◌&&◌, ℕ, ◌-◌, ◌*◌, eqb, leb, length, take, get_or, Option, Some, None}
 use Rattle.gap.specs.Rules.Checks.{check, unless}
-use Rattle.window.specs.Words.{Key, Report, Frame, Session, Answer}
+use Rattle.window.specs.Words.{Key, Report, Frame, Session}
 use Rattle.gap.specs.Rules.Doc.{Doc}
 use Rattle.gap.specs.Rules.Nearest.{nearest}
 use Rattle.gap.specs.Rules.Layout.{allowed}
@@ -20,6 +20,22 @@ use Rattle.window.specs.Rules.Rows.{first_row, last_row}
 pub record Lent : Type 0 where
   pub stores : Stores
   pub screen : List ℕ
+
+-- What a call answers: 0 or a refusal's number, the place of TEXT and LINE, the report, the named rows, and where on the screen the cursor is.
+-- (01, the answer.)
+pub record Answer : Type 0 where
+  pub code : ℕ
+  pub place : ℕ
+  pub report : Report
+  pub first : ℕ
+  pub last : ℕ
+  pub row : ℕ
+  pub column : ℕ
+
+-- The answer with the record handed back.
+pub record Reply : Type 0 where
+  pub answer : Answer
+  pub session : Session
 
 -- All that a call determines: the answer, the record handed back, and the bytes of the five stores.
 pub record Called : Type 0 where

@@ -2,16 +2,15 @@
 use Rattle.std.specs.Prelude.{Bool, true, ◌&&◌, ◌||◌, cond, ℕ, eqb, leb, Option, Some, None}
 use Rattle.window.specs.Words.{Left, Right, Direction, Action, Move, Delete, Mode, Main, Quoted}
 use Rattle.window.specs.Words.{Place, Character, Word, LineBeginning, LineEnding, Document}
-use Rattle.window.specs.Words.{Session, Answer, Key, Insert, Function, Recall, Quote, Find, Replace, Mark, Cut, Paste, Newline, Tab}
+use Rattle.window.specs.Words.{Session, Key, Insert, Function, Recall, Quote, Find, Replace, Mark, Cut, Paste, Newline, Tab}
 use Rattle.editor.specs.Rules.Refusals.{SIZE, SESSION}
 use Rattle.editor.specs.Rules.Plain.{Plain}
 use Rattle.editor.specs.Rules.Bytes.{Stores}
 use Rattle.gap.specs.Rules.Numbers.{bit}
-use Rattle.window.specs.declared.Reply.{Reply}
 use Rattle.window.specs.declared.host.Record.{Record}
 use Rattle.window.specs.declared.host.Said.{Said}
 use Rattle.window.specs.declared.host.HostReply.{HostReply}
-use Rattle.window.specs.Rules.Core.{Lent, Called, refusal, tabled, is_session, held, opened, keyed}
+use Rattle.window.specs.Rules.Core.{Lent, Answer, Reply, Called, refusal, tabled, is_session, held, opened, keyed}
 
 -- ---- The record
 

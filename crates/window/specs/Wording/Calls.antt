@@ -1,19 +1,22 @@
 -- How the promises of this layer's functions speak: spots, texts as they are lent, and the outcome of a call as one value.
-use Rattle.std.specs.Prelude.{◌≡◌, ◌≤◌, ◌<◌, List, Bool, ◌&&◌, cond, ℕ, ◌+◌, ◌*◌, true, leb, ltb, length, take, Option, Some, None}
+use Rattle.std.specs.Prelude.{◌≡◌, ◌≤◌, ◌<◌, List, Bool, ◌&&◌, cond, ℕ, ◌+◌, ◌*◌, true, leb, ltb, length, take, Option, Some, None, Result, Ok, Err}
 use Rattle.window.specs.Words.{Lengths, Frame, Session}
 use Rattle.gap.specs.Rules.Doc.{Doc}
 use Rattle.gap.specs.Rules.Lines.{newlines}
 use Rattle.gap.specs.Rules.Layout.{ungap}
-use Rattle.editor.specs.Rules.Bytes.{EditorReply}
+use Rattle.editor.specs.declared.refusals.Refusal.{Refusal}
+use Rattle.editor.specs.Rules.Refusals.{SIZE, LONG, TEXT, LINE, number}
 use Rattle.editor.specs.Rules.Plain.{Plain, Did}
-use Rattle.editor.specs.Rules.Bytes.{Stores, quarter, quarter_of, plain_of}
+use Rattle.editor.specs.Rules.Bytes.{Stores, EditorReply, quarter, quarter_of, plain_of}
 use Rattle.editor.specs.Wording.Promise.{Sound, stores}
 use Rattle.window.specs.declared.Spot.{Spot}
 use Rattle.window.specs.declared.Rows.{Rows}
-use Rattle.window.specs.declared.Reply.{Reply}
+use Rattle.window.specs.declared.Accepted.{Accepted}
+use Rattle.window.specs.declared.Unopened.{Unopened}
+use Rattle.window.specs.declared.Unopened.TheVariants as unopened
 use Rattle.window.specs.Rules.Window.{virtual_in, row_of, column_of, window, policy_row, policy_column}
 use Rattle.window.specs.Rules.Rows.{first_row, last_row}
-use Rattle.window.specs.Rules.Core.{Lent, Called, tabled, session_in, refusal, zero_record, shown}
+use Rattle.window.specs.Rules.Core.{Lent, Reply, Called, tabled, session_in, refusal, zero_record, shown}
 
 -- ---- Cursor
 
@@ -92,6 +95,29 @@ unopened_reply code place = record { answer = refusal code place; session = zero
 
 abbrev pub turned_down_reply : ℕ → Session → Reply
 turned_down_reply code s = record { answer = refusal code 0; session = s }
+
+-- What the code answers, as such replies; refused, a key gives back the record that it was given.
+abbrev pub accepted_reply : Accepted → Reply
+accepted_reply a =
+    record {
+      answer =
+          record { code = 0; place = 0; report = a.report; first = a.first; last = a.last; row = a.row; column = a.column };
+      session = a.session;
+    }
+
+abbrev pub unopened_of : Unopened → Reply
+unopened_of unopened.Size = unopened_reply SIZE 0
+unopened_of unopened.Long = unopened_reply LONG 0
+unopened_of (unopened.Text place) = unopened_reply TEXT place
+unopened_of (unopened.Line place) = unopened_reply LINE place
+
+abbrev pub open_reply : Result Accepted Unopened → Reply
+open_reply (Ok a) = accepted_reply a
+open_reply (Err why) = unopened_of why
+
+abbrev pub key_reply : Session → Result Accepted Refusal → Reply
+key_reply s (Ok a) = accepted_reply a
+key_reply s (Err e) = turned_down_reply (number e) s
 
 -- What the editor's key call reports, about the plain state that record and stores then hold.
 abbrev pub reported : EditorReply → Stores → Did Plain

@@ -1,6 +1,6 @@
 -- `calls::open` meets its contract: its tests are the definition's in their order, and the searches for a bad byte and for a longer line need no
 -- more than the first n bytes.
-use mathlib.Core.Path.{sym, ◌∙◌}
+use mathlib.Core.Path.{sym, ◌∙◌, refl}
 use lib.Seq.{length-take-le}
 use Rattle.editor.specs.Rules.LongLines.{longest_line}
 use Rattle.window.specs.Wording.Calls.{lent}
@@ -12,19 +12,19 @@ use Rattle.window.proofs.calls.open.Goals as goal
 pub returns-then-not-tabled_stores : goal.returns-then-not-tabled_stores
 returns-then-not-tabled_stores c =
     size-refused _ _ _ (lent c.args.text.now c.args.recall.now c.args.held.now c.args.side.now c.args.screen.now) c.tabled_stores.ensures
-    (ap not c.if-not-tabled_stores.true) c.unopened.ensures
+    (ap not c.if-not-tabled_stores.true) refl
 
 pub returns-then-text-n : goal.returns-then-text-n
 returns-then-text-n c =
     long-refused _ _ _ (lent c.args.text.now c.args.recall.now c.args.held.now c.args.side.now c.args.screen.now) c.tabled_stores.ensures
     (ap not c.if-not-tabled_stores.false) c.if-text-n.true
-    c.unopened-then-text-n.ensures
+    refl
 
 pub slice_bounds-bad_byte-end-2 : goal.slice_bounds-bad_byte-end-2
 slice_bounds-bad_byte-end-2 c = sym (length-take-le _ _ c.if-text-n.false)
 
-pub slice_bounds-long_line-end-in-None : goal.slice_bounds-long_line-end-in-None
-slice_bounds-long_line-end-in-None c = sym (length-take-le _ _ c.if-text-n.false)
+pub slice_bounds-long_line-end-2 : goal.slice_bounds-long_line-end-2
+slice_bounds-long_line-end-2 c = sym (length-take-le _ _ c.if-text-n.false)
 
 pub open_sound-requires : goal.open_sound-requires
 open_sound-requires c =
@@ -38,20 +38,20 @@ pub returns-in-Some : goal.returns-in-Some
 returns-in-Some c =
     text-refused _ _ _ (lent c.args.text.now c.args.recall.now c.args.held.now c.args.side.now c.args.screen.now) c.tabled_stores.ensures
     (ap not c.if-not-tabled_stores.false) c.if-text-n.false
-    c.bad_byte.ensures _ c.in-Some.is c.unopened-in-Some.ensures
+    c.bad_byte.ensures _ c.in-Some.is refl
 
 pub returns-in-Some-long_line : goal.returns-in-Some-long_line
 unfolding longest_line
 returns-in-Some-long_line c =
     line_refused _ _ _ (lent c.args.text.now c.args.recall.now c.args.held.now c.args.side.now c.args.screen.now) c.tabled_stores.ensures
     (ap not c.if-not-tabled_stores.false) c.if-text-n.false
-    c.bad_byte.ensures c.in-None.is c.long_line.ensures _ c.in-Some-long_line.is
-    c.unopened-in-Some-long_line.ensures
+    c.bad_byte.ensures c.in_default.is c.long_line.ensures _ c.in-Some-long_line.is
+    refl
 
-pub returns-in-None-long_line : goal.returns-in-None-long_line
+pub returns : goal.returns
 unfolding longest_line
-returns-in-None-long_line c =
+returns c =
     c.open_sound.ensures
     ∙ text-accepted _ _ _ (lent c.args.text.now c.args.recall.now c.args.held.now c.args.side.now c.args.screen.now) c.tabled_stores.ensures
     (ap not c.if-not-tabled_stores.false) c.if-text-n.false
-    c.bad_byte.ensures c.in-None.is c.long_line.ensures c.in-None-long_line.is
+    c.bad_byte.ensures c.in_default.is c.long_line.ensures c.in_default-long_line.is

@@ -1,5 +1,5 @@
 -- `convert` is the conversion: SIZE, SESSION by the old rule, or the quarters lengthened.
-use mathlib.Core.Path.{sym, ◌∙◌}
+use mathlib.Core.Path.{sym, ◌∙◌, refl}
 use native.Mathlib.Omega.{arith}
 use Rattle.editor.specs.Rules.Bytes.{quarter}
 use Rattle.editor.specs.Rules.Conversion.{old_quarter}
@@ -8,7 +8,7 @@ use Rattle.window.proofs.Laws.Conversion.{size-refused, session-refused, old-siz
 use Rattle.window.proofs.conversion.convert.Goals as goal
 
 pub returns-then-not-convertible_stores : goal.returns-then-not-convertible_stores
-returns-then-not-convertible_stores c = size-refused _ _ _ (sym c.convertible_stores.ensures ∙ c.if-not-convertible_stores.true) c.answered.ensures
+returns-then-not-convertible_stores c = size-refused _ _ _ (sym c.convertible_stores.ensures ∙ c.if-not-convertible_stores.true) refl
 
 pub session_test-requires : goal.session_test-requires
 unfolding old_quarter quarter
@@ -18,7 +18,7 @@ pub returns-in_default : goal.returns-in_default
 unfolding old_quarter
 returns-in_default c =
     session-refused _ _ _ (sym c.convertible_stores.ensures ∙ c.if-not-convertible_stores.false)
-    (tested-not _ _ _ c.session_test.ensures c.in_default.is) c.answered-in_default.ensures
+    (tested-not _ _ _ c.session_test.ensures c.in_default.is) refl
 
 pub lengthen-requires : goal.lengthen-requires
 unfolding old_quarter
@@ -31,5 +31,5 @@ pub returns : goal.returns
 unfolding old_quarter
 returns c =
     lengthened-done _ _ _ (sym c.convertible_stores.ensures ∙ c.if-not-convertible_stores.false)
-    (tested-so _ _ _ c.session_test.ensures c.in-Some.is).0 c.answered-2.ensures
+    (tested-so _ _ _ c.session_test.ensures c.in-Some.is).0 refl
     c.lengthen.ensures
