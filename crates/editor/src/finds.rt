@@ -5,12 +5,13 @@ ghost use Rattle.gap.specs.declared.Direction.TheVariants.{Left, Right};
 ghost use Rattle.gap.specs.Rules.Sequence.{every, begins, counted};
 ghost use Rattle.gap.specs.Rules.Doc.{content};
 ghost use Rattle.gap.specs.Rules.Nearest.{nearest, distance};
-ghost use Rattle.gap.specs.Rules.Layout.{ungap};
+ghost use Rattle.gap.specs.Wording.Views.{seen};
 ghost use Rattle.editor.specs.Rules.Keys.{matches};
 ghost use Rattle.editor.specs.Wording.Searches.{lowest, match_away, match_left, Reach, likely_at, Telling};
 
 use gap::Direction;
 use gap::compare::{run_begins, same_run};
+use gap::views::View;
 
 // Two runs, the second behind the first, have the pattern at their front: each has its part of it.
 fn runs_begin(x: &[u8], y: &[u8], pattern: &[u8]) -> bool
@@ -26,16 +27,16 @@ fn runs_begin(x: &[u8], y: &[u8], pattern: &[u8]) -> bool
     false
 }
 
-// The text of a gap store has the pattern at place `at`, be it across the gap. The text right of the gap ends with the store.
-pub fn text_begins(s: &[u8], l: usize, r: usize, at: usize, pattern: &[u8]) -> bool
-    requires { (l + r ≤ length s.now) × (at ≤ l + r) }
-    ensures { result ≡ begins pattern.now (drop at (content (ungap l r s.now))) }
+// The document has the pattern at place `at`, be it across the cursor.
+pub fn text_begins(d: View<'_>, at: usize, pattern: &[u8]) -> bool
+    requires { at ≤ length d.l.now + length d.r.now }
+    ensures { result ≡ begins pattern.now (drop at (content (seen d.entry))) }
 {
-    let back = s.len() - r;
+    let l = d.l.len();
     if l <= at {
-        return run_begins(s, back + (at - l), pattern);
+        return run_begins(d.r, at - l, pattern);
     }
-    runs_begin(&s[at..l], &s[back..], pattern)
+    runs_begin(&d.l[at..], d.r, pattern)
 }
 
 // What a search answers if one move is enough, as for an empty pattern, which matches everywhere: that move, if there is room for it.
@@ -158,10 +159,9 @@ fn nearest_match(way: Direction, t: &[u8], from: usize, to: usize, pattern: &[u8
     let k = telling(pattern);
     let mut d = from;
     while 32 <= to - d {
-        let found = block_match(way, t, d, pattern, k);
-        let None = found else {
-            return found;
-        };
+        if let Some(found) = block_match(way, t, d, pattern, k) {
+            return Some(found);
+        }
         d += 32;
     }
     first_match(way, t, d, to, pattern, k)
@@ -183,49 +183,43 @@ fn find_right(t: &[u8], pattern: &[u8]) -> Option<usize>
 }
 
 // The nearest match that begins at most n bytes left of the cursor. It may reach across, so that each place is tested by itself.
-fn match_across(s: &[u8], l: usize, r: usize, n: usize, pattern: &[u8]) -> Option<usize>
-    requires { (l + r ≤ length s.now) × (n ≤ l) }
-    ensures { result ≡ nearest (match_left pattern.now l (content (ungap l r s.now))) n 1 }
+fn match_across(d: View<'_>, n: usize, pattern: &[u8]) -> Option<usize>
+    requires { n ≤ length d.l.now }
+    ensures { result ≡ nearest (match_left pattern.now (length d.entry.l.now) (content (seen d.entry))) n 1 }
 {
-    let mut d = 1;
-    while d <= n {
-        if text_begins(s, l, r, l - d, pattern) {
-            return Some(d);
+    let l = d.l.len();
+    for far in 1..n + 1 {
+        if text_begins(d, l - far, pattern) {
+            return Some(far);
         }
-        d += 1;
     }
     None
 }
 
 // The distance to the nearest match on the left. Those that begin at least as far away as the pattern is long lie left of the cursor.
-fn find_left(s: &[u8], l: usize, r: usize, pattern: &[u8]) -> Option<usize>
-    requires { l + r ≤ length s.now }
-    ensures { result ≡ distance Left (matches pattern.now) (ungap l r s.now) }
+fn find_left(d: View<'_>, pattern: &[u8]) -> Option<usize>
+    ensures { result ≡ distance Left (matches pattern.now) (seen d.entry) }
 {
+    let l = d.l.len();
     let m = pattern.len();
     if m < 1 {
         return first_move(l);
     }
     if l < m {
-        return match_across(s, l, r, l, pattern);
+        return match_across(d, l, pattern);
     }
-    let found = match_across(s, l, r, m - 1, pattern);
-    let None = found else {
-        return found;
-    };
-    nearest_match(Direction::Left, &s[..l], m, l + 1, pattern)
+    if let Some(far) = match_across(d, m - 1, pattern) {
+        return Some(far);
+    }
+    nearest_match(Direction::Left, d.l, m, l + 1, pattern)
 }
 
 // The distance to the nearest match in a direction.
-pub fn match_distance(way: Direction, s: &[u8], l: usize, r: usize, pattern: &[u8]) -> Option<usize>
-    requires { l + r ≤ length s.now }
-    ensures { result ≡ distance way (matches pattern.now) (ungap l r s.now) }
+pub fn match_distance(way: Direction, d: View<'_>, pattern: &[u8]) -> Option<usize>
+    ensures { result ≡ distance way (matches pattern.now) (seen d.entry) }
 {
     match way {
-        Direction::Left => find_left(s, l, r, pattern),
-        Direction::Right => {
-            let back = s.len() - r;
-            find_right(&s[back..], pattern)
-        }
+        Direction::Left => find_left(d, pattern),
+        Direction::Right => find_right(d.r, pattern),
     }
 }

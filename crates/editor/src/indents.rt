@@ -14,6 +14,7 @@ use crate::{SideDone, Sizes};
 use gap::indents::line_indent;
 use gap::lines::since_newline;
 use gap::texts::insert_spaced;
+use gap::views::View;
 
 // A byte and k spaces behind it go in, all of them or none.
 fn spaced_side(
@@ -32,7 +33,7 @@ fn spaced_side(
     if text.len() - (l + r) <= k {
         return Err(Refusal::Full);
     }
-    if !run_fits(limit, b, k, text, l, r) {
+    if !run_fits(limit, b, k, View::of(text, l, r)) {
         return Err(Refusal::Line);
     }
     insert_spaced(text, l, r, b, k);

@@ -1,69 +1,56 @@
 // What searches answer, with the newlines that they pass: counted in one run over the bytes between, once the distance is known.
-ghost use Rattle.std.specs.Prelude.{◌≡◌, ◌+◌, ◌≤◌, length};
-ghost use Rattle.gap.specs.Rules.Doc.{passed};
+ghost use Rattle.std.specs.Prelude.{◌≡◌, ◌≤◌};
+ghost use Rattle.gap.specs.Rules.Doc.{passed, room};
 ghost use Rattle.gap.specs.Rules.Lines.{newlines};
-ghost use Rattle.gap.specs.Rules.Layout.{ungap};
+ghost use Rattle.gap.specs.Wording.Views.{seen};
 ghost use Rattle.editor.specs.Rules.Places.{is_at};
 ghost use Rattle.editor.specs.Rules.Passages.{with_lines, passage_to};
 ghost use Rattle.editor.specs.Rules.Keys.{matches};
-ghost use Rattle.editor.specs.Wording.Promise.{room_of, InRoom};
+ghost use Rattle.editor.specs.Wording.Promise.{InRoom};
 
 use crate::finds::match_distance;
 use crate::places::place_distance;
 use crate::{Passage, Place};
 use gap::Direction;
 use gap::lines::count_newlines;
+use gap::views::View;
 
-// The newlines among the d bytes that a move would cross.
-fn lines_passed(way: Direction, d: usize, s: &[u8], l: usize, r: usize) -> usize
-    requires r_in_bounds { l + r ≤ length s.now }
-    requires d_bound { d ≤ room_of way (record { l = l; r = r; rl = 0; rr = 0 }) }
-    ensures { result ≡ newlines (passed way d (ungap l r s.now)) }
+// The newlines among the n bytes that a move would cross.
+fn lines_passed(way: Direction, n: usize, d: View<'_>) -> usize
+    requires { n ≤ room way (seen d) }
+    ensures { result ≡ newlines (passed way n (seen d.entry)) }
 {
     match way {
         Direction::Left => {
-            let from = l - d;
-            count_newlines(&s[from..l])
+            let from = d.l.len() - n;
+            count_newlines(&d.l[from..])
         }
-        Direction::Right => {
-            let from = s.len() - r;
-            let end = from + d;
-            count_newlines(&s[from..end])
-        }
+        Direction::Right => count_newlines(&d.r[..n]),
     }
 }
 
 // A distance with the newlines on the way.
-fn with_lines(found: Option<usize>, way: Direction, s: &[u8], l: usize, r: usize) -> Option<Passage>
-    requires r_in_bounds { l + r ≤ length s.now }
-    requires in_room { InRoom found way l r }
-    ensures { result ≡ with_lines way (ungap l r s.now) found }
+fn with_lines(found: Option<usize>, way: Direction, d: View<'_>) -> Option<Passage>
+    requires { InRoom found way (seen d) }
+    ensures { result ≡ with_lines way (seen d.entry) found }
 {
     let steps = found?;
     Some(Passage {
         steps,
-        lines: lines_passed(way, steps, s, l, r),
+        lines: lines_passed(way, steps, d),
     })
 }
 
 // To a place.
-pub fn place_passage(place: Place, way: Direction, s: &[u8], l: usize, r: usize) -> Option<Passage>
-    requires { l + r ≤ length s.now }
-    ensures { result ≡ passage_to way (is_at place way) (ungap l r s.now) }
+pub fn place_passage(place: Place, way: Direction, d: View<'_>) -> Option<Passage>
+    ensures { result ≡ passage_to way (is_at place way) (seen d.entry) }
 {
-    with_lines(place_distance(place, way, s, l, r), way, s, l, r)
+    with_lines(place_distance(place, way, d), way, d)
 }
 
 // To the nearest match.
-pub fn match_passage(
-    way: Direction,
-    s: &[u8],
-    l: usize,
-    r: usize,
-    pattern: &[u8],
-) -> Option<Passage>
-    requires { l + r ≤ length s.now }
-    ensures { result ≡ passage_to way (matches pattern.now) (ungap l r s.now) }
+pub fn match_passage(way: Direction, d: View<'_>, pattern: &[u8]) -> Option<Passage>
+    ensures { result ≡ passage_to way (matches pattern.now) (seen d.entry) }
 {
-    with_lines(match_distance(way, s, l, r, pattern), way, s, l, r)
+    with_lines(match_distance(way, d, pattern), way, d)
 }

@@ -1,7 +1,7 @@
 // Places, and the distance to the nearest one. Going left only the text left of the cursor matters, going right only the other.
 ghost use Rattle.std.specs.Prelude.{◌≡◌, List, ℕ, ◌+◌, ◌≤◌, length, take, drop};
 ghost use Rattle.gap.specs.Rules.Nearest.{distance};
-ghost use Rattle.gap.specs.Rules.Layout.{ungap};
+ghost use Rattle.gap.specs.Wording.Views.{seen};
 ghost use Rattle.editor.specs.Rules.Places.{line_beginning, line_ending, neighbour_of, left_of, right_of, word, is_at};
 ghost use Rattle.editor.specs.Wording.Promise.{whole_of};
 ghost use Rattle.editor.specs.Wording.Searches.{facing};
@@ -9,6 +9,7 @@ ghost use Rattle.editor.specs.Wording.Searches.{facing};
 use crate::finds::lowest_place;
 use crate::{Neighbour, Place};
 use gap::Direction;
+use gap::views::View;
 
 // Place p of a text is a line beginning.
 pub fn line_beginning_at(t: &[u8], p: usize) -> bool
@@ -155,16 +156,12 @@ fn whole(t: &[u8]) -> Option<usize>
     Some(n)
 }
 
-// The distance in a direction, in a gap store.
-pub fn place_distance(place: Place, way: Direction, s: &[u8], l: usize, r: usize) -> Option<usize>
-    requires { l + r ≤ length s.now }
-    ensures { result ≡ distance way (is_at place way) (ungap l r s.now) }
+// The distance in a direction.
+pub fn place_distance(place: Place, way: Direction, d: View<'_>) -> Option<usize>
+    ensures { result ≡ distance way (is_at place way) (seen d.entry) }
 {
     match way {
-        Direction::Left => text_distance(place, way, &s[..l]),
-        Direction::Right => {
-            let back = s.len() - r;
-            text_distance(place, way, &s[back..])
-        }
+        Direction::Left => text_distance(place, way, d.l),
+        Direction::Right => text_distance(place, way, d.r),
     }
 }

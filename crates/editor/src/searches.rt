@@ -1,10 +1,11 @@
 // FIND, UPFIND and REPLACE. Nothing is written before it is known that the key is accepted.
-ghost use Rattle.std.specs.Prelude.{◌≡◌, true, not, ◌||◌, ◌+◌, ◌-◌, ◌≤◌, leb, length};
+ghost use Rattle.std.specs.Prelude.{◌≡◌, true, not, ◌||◌, ◌+◌, ◌-◌, ◌*◌, ◌≤◌, leb, length};
+ghost use Rattle.gap.specs.Wording.Views.{seen};
 ghost use Rattle.editor.specs.Rules.Plain.{done};
 ghost use Rattle.editor.specs.Rules.Keys.{searched, found, substituted, replaced, bounded};
 ghost use Rattle.editor.specs.Rules.Bytes.{quarter};
 ghost use Rattle.editor.specs.Wording.Promise.{SoundUnheld, EditsUnheld, Searchable, EditsTexts, SubstitutesUnheld};
-ghost use Rattle.editor.specs.Wording.Promise.{Exchanges, ReadableExchanged, editor_reply, editor_done};
+ghost use Rattle.editor.specs.Wording.Promise.{Exchanges, ReadableExchanged, editor_reply, editor_done, replacing};
 
 use crate::finds::text_begins;
 use crate::passages::match_passage;
@@ -17,6 +18,7 @@ use gap::Direction;
 use gap::line_limits::runs_fit;
 use gap::runs::hold;
 use gap::texts::{drop_right, place_pair};
+use gap::views::View;
 
 // A search with the stored pattern: to the nearest match, or the bell.
 fn search(way: Direction, n: Lengths, text: &mut [u8], side: &[u8]) -> EditorDone
@@ -25,7 +27,8 @@ fn search(way: Direction, n: Lengths, text: &mut [u8], side: &[u8]) -> EditorDon
 {
     let main = n.main;
     let end = 2 * QUARTER + n.pl;
-    let Some(passage) = match_passage(way, text, main.l, main.r, &side[2 * QUARTER..end]) else {
+    let document = View::of(text, main.l, main.r);
+    let Some(passage) = match_passage(way, document, &side[2 * QUARTER..end]) else {
         return EditorDone {
             report: RANG,
             lengths: n,
@@ -94,46 +97,30 @@ fn exchange_fits(here: bool, size: usize, n: Lengths) -> bool
     n.xl + n.xr <= size - (main.l + main.r - n.pl)
 }
 
-// Where the pattern stands, no line of the document with the replacement in its place is too long. In QUOTED the quotation is the replacement
-// already.
-fn exchange_readable(here: bool, n: Lengths, text: &[u8], side: &[u8]) -> bool
-    requires { Exchanges here n text.now side.now }
-    ensures { ReadableExchanged result n text.now side.now }
+// What REPLACE puts in: in MAIN the replacement, in QUOTED the quotation, which becomes the replacement.
+fn replacing<'a>(n: Lengths, side: &'a [u8]) -> View<'a>
+    requires side_len { length side.now ≡ 4 * quarter }
+    requires fits { (n.xl + n.xr ≤ quarter) × (n.quoted.l + n.quoted.r ≤ quarter) }
+    ensures { seen result ≡ replacing n.mode n side.now }
+{
+    let mode = n.mode;
+    let quoted = n.quoted;
+    match mode {
+        Mode::Main => View::of_pair(&side[3 * QUARTER..4 * QUARTER], n.xl, n.xr),
+        Mode::Quoted => View::of(&side[..QUARTER], quoted.l, quoted.r),
+    }
+}
+
+// Where the pattern stands, no line of the document with the replacement in its place is too long.
+fn exchange_readable(here: bool, n: Lengths, document: View<'_>, side: &[u8]) -> bool
+    requires { Exchanges here n (seen document) side.now }
+    ensures { ReadableExchanged result n (seen document.entry) side.now }
 {
     if !here {
         return true;
     }
-    let mode = n.mode;
-    let main = n.main;
-    let l = main.l;
-    let back = text.len() - (main.r - n.pl);
-    match mode {
-        Mode::Main => {
-            let pair = &side[3 * QUARTER..4 * QUARTER];
-            let x = n.xl;
-            let end = x + n.xr;
-            runs_fit(
-                LONGEST_LINE,
-                &text[..l],
-                &pair[..x],
-                &pair[x..end],
-                &text[back..],
-            )
-        }
-        Mode::Quoted => {
-            let quoted = n.quoted;
-            let own = &side[..QUARTER];
-            let x = quoted.l;
-            let y = QUARTER - quoted.r;
-            runs_fit(
-                LONGEST_LINE,
-                &text[..l],
-                &own[..x],
-                &own[y..],
-                &text[back..],
-            )
-        }
-    }
+    let put = replacing(n, side);
+    runs_fit(LONGEST_LINE, document.l, put.l, put.r, &document.r[n.pl..])
 }
 
 // REPLACE: FULL and then LINE are tested before anything is written; in QUOTED the quotation then becomes the replacement.
@@ -151,12 +138,13 @@ pub fn replace_key(
     let main = n.main;
     let quoted = n.quoted;
     let end = 2 * QUARTER + n.pl;
-    let here = text_begins(text, main.l, main.r, main.l, &side[2 * QUARTER..end]);
+    let document = View::of(text, main.l, main.r);
+    let here = text_begins(document, main.l, &side[2 * QUARTER..end]);
     let m = replacement_taken(n);
     if !exchange_fits(here, text.len(), m) {
         return Err(Refusal::Full);
     }
-    if !exchange_readable(here, n, text, side) {
+    if !exchange_readable(here, n, document, side) {
         return Err(Refusal::Line);
     }
     hand_quotation(mode, quoted, 3 * QUARTER, side);

@@ -16,6 +16,7 @@ use crate::splices::{join_fits, pair_fits, run_fits};
 use crate::{Action, Edit, Passage, Place, SideDone, Sizes};
 use gap::Direction;
 use gap::texts::{delete_left, delete_right, insert, move_left, move_right, place_pair};
+use gap::views::View;
 
 // A byte goes in. Whether it fits is known before anything is written.
 pub fn insert_side(limit: usize, b: u8, n: Sizes, text: &mut [u8]) -> Result<SideDone, Refusal>
@@ -28,7 +29,7 @@ pub fn insert_side(limit: usize, b: u8, n: Sizes, text: &mut [u8]) -> Result<Sid
     if text.len() <= l + r {
         return Err(Refusal::Full);
     }
-    if !run_fits(limit, b, 0, text, l, r) {
+    if !run_fits(limit, b, 0, View::of(text, l, r)) {
         return Err(Refusal::Line);
     }
     insert(text, l, r, b);
@@ -88,7 +89,7 @@ pub fn delete_side(
     let mut m = n;
     match way {
         Direction::Left => {
-            if !join_fits(limit, text, l - d, r) {
+            if !join_fits(limit, View::of(text, l - d, r)) {
                 return Err(Refusal::Line);
             }
             delete_left(text, l, r, d, recall);
@@ -101,7 +102,7 @@ pub fn delete_side(
             })
         }
         Direction::Right => {
-            if !join_fits(limit, text, l, r - d) {
+            if !join_fits(limit, View::of(text, l, r - d)) {
                 return Err(Refusal::Line);
             }
             delete_right(text, l, r, d, recall);
@@ -151,9 +152,7 @@ pub fn function_side(
     ensures { EditsSide limit (side_reply n result) n (function action way place) text.old recall.old
         text.new recall.new }
 {
-    let l = n.l;
-    let r = n.r;
-    let Some(passage) = place_passage(place, way, text, l, r) else {
+    let Some(passage) = place_passage(place, way, View::of(text, n.l, n.r)) else {
         return Ok(SideDone {
             report: RANG,
             sizes: n,
@@ -179,7 +178,7 @@ pub fn recall_side(
     if text.len() - (l + r) < rl + rr {
         return Err(Refusal::Full);
     }
-    if !pair_fits(limit, text, l, r, recall, rl, rr) {
+    if !pair_fits(limit, View::of(text, l, r), View::of_pair(recall, rl, rr)) {
         return Err(Refusal::Line);
     }
     place_pair(text, l, r, recall, rl, rr);

@@ -11,6 +11,7 @@ pub mod numbers;
 pub mod runs;
 pub mod sound;
 pub mod texts;
+pub mod views;
 pub mod writers;
 
 // Which way along a text.

@@ -5,18 +5,15 @@ use mathlib.Core.Bool.{Bool, true, false, not}
 use mathlib.Core.List.{List}
 use Prim.Native.Nat.{ℕ, ◌+◌, ◌-◌, ◌≤◌, ◌<◌}
 use native.Mathlib.Omega.{arith}
-use lib.ListN.{length, take, drop, length-drop}
-use lib.Seq.{drop-append-le, length-take-le}
+use lib.ListN.{length, drop, length-drop}
+use lib.Seq.{drop-append-le}
 use borrow.Author.Tests.{not-true}
 use Rattle.gap.specs.declared.Direction.{Direction}
 use Rattle.gap.specs.declared.Direction.TheVariants.{Left, Right}
 use Rattle.gap.specs.Rules.Sequence.{every, begins, counted}
 use Rattle.gap.specs.Rules.Doc.{Doc, content}
-use Rattle.gap.specs.Rules.Layout.{ungap}
 use Rattle.gap.specs.Rules.Nearest.{nearest, distance}
 use Rattle.gap.proofs.Laws.Doc.{behind-left, moves-right}
-use Rattle.gap.proofs.Laws.Runs.{tail_of, tail-lent}
-use Rattle.gap.proofs.Laws.Layout.{length-left}
 use Rattle.gap.proofs.Laws.Nearest.{none-nowhere, nearest-same}
 use Rattle.gap.proofs.Laws.Scans.{scan-start, scan-none}
 use Rattle.gap.proofs.Laws.RowScans.{numbers-at, one-row, row-none, row_last}
@@ -97,44 +94,30 @@ module _ (pattern text : List ℕ) where
   pub right-short : length text < length pattern → None ≡ nearest (match_away Right pattern text) (length text) 1
   right-short short = right-rest 0 (omega arith) (omega arith) (scan-none _ 0 1 1 (scan-start _ 0 1) (omega arith))
 
--- To the left it is one of the whole text, with the cursor at place l.
-module _ (pattern : List ℕ) (l r : ℕ) (s : List ℕ) (fits : l + r ≤ length s) where
-  pub distance-left : nearest (match_left pattern l (content (ungap l r s))) l 1 ≡ distance Left (matches pattern) (ungap l r s)
+-- To the left it is one of the whole text, with the cursor behind its first part.
+module _ (pattern : List ℕ) (d : Doc) where
+  pub distance-left : nearest (match_left pattern (length d.l) (content d)) (length d.l) 1 ≡ distance Left (matches pattern) d
   unfolding distance
-  distance-left =
-      ap (λ k. nearest (match_left pattern k (content (ungap l r s))) k 1) (sym (length-left l r s fits))
-      ∙ sym (λ i. nearest (λ n. begins pattern (behind-left n (ungap l r s) i)) (length (ungap l r s).l) 1)
+  distance-left = sym (λ i. nearest (λ n. begins pattern (behind-left n d i)) (length d.l) 1)
 
   -- Matches that begin at least as far away as the pattern is long lie in the text left of the cursor.
-  left_alone : (d : ℕ) → length pattern ≤ d → d ≤ l
-      → match_away Left pattern (take l s) d ≡ match_left pattern l (content (ungap l r s)) d
-  unfolding ungap
-  left_alone d far near =
-      let size : length (take l s) ≡ l = length-left l r s fits in
-      let long : length pattern ≤ length (drop (l - d) (take l s)) = rw (length-drop, size) (omega arith) in
-      rw size
-      (begins-front pattern (drop (l - d) (take l s)) _ long
-      ∙ ap (begins pattern) (sym (drop-append-le (l - d) (take l s) _ (omega arith))))
+  left_alone : (n : ℕ) → length pattern ≤ n → n ≤ length d.l
+      → match_away Left pattern d.l n ≡ match_left pattern (length d.l) (content d) n
+  left_alone n far near =
+      let long : length pattern ≤ length (drop (length d.l - n) d.l) = rw length-drop (omega arith) in
+      begins-front pattern (drop (length d.l - n) d.l) _ long
+      ∙ ap (begins pattern) (sym (drop-append-le (length d.l - n) d.l _ (omega arith)))
 
-  module _ (some : 1 ≤ length pattern) (long : length pattern ≤ l) where
-    pub left-reach : Reach Left pattern (take l s) (length pattern) (l + 1)
-    left-reach =
-        let size = length-take-le l s (omega arith) in
-        record { order = omega arith; end = omega arith; room = λ d far near. omega arith }
+  module _ (some : 1 ≤ length pattern) (long : length pattern ≤ length d.l) where
+    pub left-reach : Reach Left pattern d.l (length pattern) (length d.l + 1)
+    left-reach = record { order = omega arith; end = omega arith; room = λ n far near. omega arith }
 
     pub left-beyond : {across found : Option ℕ}
-        → across ≡ nearest (match_left pattern l (content (ungap l r s))) (length pattern - 1) 1 → across ≡ None
-        → found ≡ nearest (match_away Left pattern (take l s)) (l + 1 - length pattern) (length pattern)
-        → found ≡ nearest (match_left pattern l (content (ungap l r s))) l 1
+        → across ≡ nearest (match_left pattern (length d.l) (content d)) (length pattern - 1) 1 → across ≡ None
+        → found ≡ nearest (match_away Left pattern d.l) (length d.l + 1 - length pattern) (length pattern)
+        → found ≡ nearest (match_left pattern (length d.l) (content d)) (length d.l) 1
     left-beyond passed none searched =
         let next : 1 + (length pattern - 1) ≡ length pattern = omega arith in
-        row_last (rw next at (row-none (scan-start _ l 1) (length pattern - 1) (omega arith) passed none)) (l + 1 - length pattern)
+        row_last (rw next at (row-none (scan-start _ (length d.l) 1) (length pattern - 1) (omega arith) passed none)) (length d.l + 1 - length pattern)
         (omega arith)
-        (searched ∙ nearest-same (l + 1 - length pattern) (length pattern) (λ j far near. left_alone j far (omega arith)))
-
--- A search to the right, in the text behind the cursor as code lends it, is one in the store.
-pub found_right : {way : Direction} {found : Option ℕ} (pattern : List ℕ) (l r : ℕ) (s : List ℕ) → way ≡ Right
-    → ((x : List ℕ) → found ≡ distance Right (matches pattern) (record { l = x; r = tail_of (length s - r) s }))
-    → found ≡ distance way (matches pattern) (ungap l r s)
-unfolding ungap
-found_right pattern l r s e searched = rw e (searched (take l s) ∙ rw tail-lent)
+        (searched ∙ nearest-same (length d.l + 1 - length pattern) (length pattern) (λ j far near. left_alone j far (omega arith)))

@@ -11,11 +11,9 @@ use lib.Dec.{leb, ltb}
 use lib.ListN.{length, take, drop, get_or, length-append, length-drop, drop_of_length-le}
 use lib.Seq.{take-suc, drop-cons, length-take-le, drop-append-add}
 use borrow.Author.Tests.{ne_eqb, leb-true, leb-false, lt-ltb, le-ltb}
-use borrow.Author.Rules.{part_to_end}
 use Rattle.gap.specs.Rules.Sequence.{last_of}
 use Rattle.gap.specs.Rules.Doc.{Doc, room, move, times}
 use Rattle.gap.specs.Rules.Nearest.{nearest, distance}
-use Rattle.gap.specs.Rules.Layout.{ungap}
 use Rattle.gap.proofs.Laws.Tests.{decided, cond-true, cond-false}
 use Rattle.gap.proofs.Laws.Doc.{back-append, moves-left, moves-right, room-moves}
 use Rattle.gap.proofs.Laws.Nearest.{least-reached, none-nowhere, nearest-same}
@@ -193,19 +191,10 @@ pub lowest-within : (way : Direction) (n d : ℕ) → d ≤ n → lowest way n d
 lowest-within Left n d h = omega arith
 lowest-within Right n d h = h
 
--- In a gap store: the parts that the code lends are the texts.
-module _ (place : Place) {way : Direction} {found : Option ℕ} (l r : ℕ) (s : List ℕ) where
-  pub gap-left : way ≡ Left → ((other : List ℕ) → found ≡ distance way (is_at place way) (facing way (take l s) other))
-      → found ≡ distance way (is_at place way) (ungap l r s)
-  unfolding ungap
-  gap-left toward e =
-      let known = rw toward at (e (drop (length s - r) s)) in
-      distance-known (ungap l r s) refl toward known
+-- So it is in a document, by the text on that side.
+module _ (place : Place) {way : Direction} {found : Option ℕ} (d : Doc) where
+  pub found-left : way ≡ Left → ((other : List ℕ) → found ≡ distance way (is_at place way) (facing way d.l other)) → found ≡ distance way (is_at place way) d
+  found-left toward e = let known = rw toward at (e d.r) in distance-known d refl toward known
 
-  pub gap-right : way ≡ Right
-      → ((other : List ℕ) → found ≡ distance way (is_at place way) (facing way (take (length s - (length s - r)) (drop (length s - r) s)) other))
-      → found ≡ distance way (is_at place way) (ungap l r s)
-  unfolding ungap
-  gap-right toward e =
-      let known = rw (toward, part_to_end) at (e (take l s)) in
-      distance-known (ungap l r s) refl toward known
+  pub found-right : way ≡ Right → ((other : List ℕ) → found ≡ distance way (is_at place way) (facing way d.r other)) → found ≡ distance way (is_at place way) d
+  found-right toward e = let known = rw toward at (e d.l) in distance-known d refl toward known

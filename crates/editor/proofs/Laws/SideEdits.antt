@@ -101,11 +101,9 @@ room-held : (way : Direction) (l r : ℕ) (text : List ℕ) → l + r ≤ length
 room-held Left l r text fits = sym (length-left _ _ _ fits)
 room-held Right l r text fits = sym (length-right _ _ _ fits)
 
-pub distance-in-room : (way : Direction) (place : Doc → Bool) (l r : ℕ) (text : List ℕ) → l + r ≤ length text → {answer : Option ℕ}
-    → answer ≡ distance way place (ungap l r text) → InRoom answer way l r
+pub distance-in-room : (way : Direction) (place : Doc → Bool) (d : Doc) {answer : Option ℕ} → answer ≡ distance way place d → InRoom answer way d
 unfolding distance
-distance-in-room way place l r text fits e d told =
-    omega (arith, room-held way l r text fits, (reached-least _ _ 1 d (sym e ∙ told)).within)
+distance-in-room way place d e n told = omega (arith, (reached-least _ _ 1 n (sym e ∙ told)).within)
 
 passage-distance : (way : Direction) (doc : Doc) (answer : Option ℕ) {passage : Passage} → with_lines way doc answer ≡ Some passage → answer ≡ Some passage.steps
 unfolding with_lines
@@ -117,7 +115,7 @@ pub within-room : (n : Sizes) {text : List ℕ} → IsGap n.l n.r text → (way 
 unfolding passage_to
 within-room n gap way place {passage = passage} e told =
     let near = passage-distance way _ (distance way place (ungap n.l n.r _)) (sym e ∙ told) in
-    rw (room_of_lem way n) (distance-in-room way place n.l n.r _ gap.fits refl passage.steps near)
+    rw (room_of_lem way n, room-held way n.l n.r _ gap.fits) (distance-in-room way place _ refl passage.steps near)
 
 -- Two stores that hold a side.
 module _ {limit : ℕ} {n : Sizes} {text recall : List ℕ} (on : OnSide limit n text recall) where

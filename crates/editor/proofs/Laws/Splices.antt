@@ -2,90 +2,58 @@
 use mathlib.Core.Path.{◌≡◌, sym, ap, ◌∙◌}
 use mathlib.Core.Logic.{◌↔◌}
 use mathlib.Core.Bool.{Bool, true, false}
-use mathlib.Core.List.{List, ◌∷◌, ◌++◌, append_assoc, append-nil}
+use mathlib.Core.List.{◌∷◌, ◌++◌, append_assoc, append-nil}
 use Prim.Native.Nat.{ℕ, ◌+◌, ◌-◌, ◌≤◌, ◌<◌}
 use native.Mathlib.Omega.{arith}
 use borrow.Author.Tests.{leb-true, leb-false, le-leb, lt-leb, eq-eqb, ne_eqb}
 use lib.Dec.{leb}
-use lib.ListN.{length, take, drop, length-take}
+use lib.ListN.{length}
 use Rattle.gap.specs.Rules.Doc.{Doc, content, delete, times, splice}
 use Rattle.gap.specs.Rules.Lines.{newline, since}
 use Rattle.gap.specs.Rules.Fields.{line_of}
 use Rattle.gap.specs.Rules.Indents.{spaces}
-use Rattle.gap.specs.Rules.Layout.{ungap, unpair}
 use Rattle.gap.specs.Rules.LineLimits.{lines_fit}
 use Rattle.gap.proofs.Laws.Tests.{cond-true, cond-false}
 use Rattle.gap.proofs.Laws.Doc.{insertions, deletions-left, deletions-right}
-use Rattle.gap.proofs.Laws.Runs.{tail_of, tail-lent}
 use Rattle.gap.proofs.Laws.LineLimits.{fit-left, fit-right, fit-take, fit-drop, spaced_at, fit-joined, fit-spaced}
 use Rattle.editor.specs.Words.{Direction, Left, Right}
 use Rattle.editor.specs.Rules.Indents.{leftward}
 use Rattle.editor.specs.Wording.Promise.{HalvesFit}
 
-pub short-take : (k : ℕ) (s : List ℕ) → length (take k s) ≤ k
-short-take k s = rw length-take (omega arith)
-
-module _ (limit l r : ℕ) (text : List ℕ) where
-  abbrev front : List ℕ
-  front = take l text
-
-  -- What stands behind the cursor, as it is lent, and by its place.
-  abbrev lent : List ℕ
-  lent = tail_of (length text - r) text
-
-  abbrev behind : List ℕ
-  behind = drop (length text - r) text
-
+module _ (limit : ℕ) (d : Doc) where
   -- A text that has no longer line has none in either half.
-  pub halves-fit : lines_fit limit (content (ungap l r text)) ≡ true → HalvesFit limit (ungap l r text)
-  unfolding ungap
-  halves-fit fits = record { before = fit-left limit front behind fits; behind = fit-right limit front behind fits }
-
-  pub halves-lent : HalvesFit limit (ungap l r text) → (lines_fit limit front ≡ true) × (lines_fit limit lent ≡ true)
-  unfolding ungap
-  halves-lent halves = (halves.before, ap (lines_fit limit) (tail-lent (length text - r) text) ∙ halves.behind)
+  pub halves-fit : lines_fit limit (content d) ≡ true → HalvesFit limit d
+  halves-fit fits = record { before = fit-left limit d.l d.r fits; behind = fit-right limit d.l d.r fits }
 
   -- Nothing goes in.
-  pub joined-fits : HalvesFit limit (ungap l r text) → {ok : Bool} {at : ℕ} → at ≡ since front → ok ≡ leb (at + length (line_of lent)) limit
-      → ok ≡ lines_fit limit (content (ungap l r text))
-  unfolding ungap
-  joined-fits halves counted looked =
-      looked ∙ (rw (counted, tail-lent) (sym (fit-joined limit front behind halves.before halves.behind)))
+  pub joined-fits : HalvesFit limit d → {ok : Bool} {at : ℕ} → at ≡ since d.l → ok ≡ leb (at + length (line_of d.r)) limit
+      → ok ≡ lines_fit limit (content d)
+  joined-fits halves counted looked = looked ∙ (rw counted (sym (fit-joined limit d.l d.r halves.before halves.behind)))
 
   -- A byte and spaces behind it.
-  module _ (b k : ℕ) (fits : lines_fit limit (content (ungap l r text)) ≡ true) where
-    spaced-fits : leb (spaced_at b k (since front) + length (line_of lent)) limit
-        ≡ lines_fit limit (content (splice 0 0 (leftward (b ∷ spaces k)) (ungap l r text)))
-    unfolding ungap
+  module _ (b k : ℕ) (fits : lines_fit limit (content d) ≡ true) where
+    spaced-fits : leb (spaced_at b k (since d.l) + length (line_of d.r)) limit
+        ≡ lines_fit limit (content (splice 0 0 (leftward (b ∷ spaces k)) d))
     spaced-fits =
-        ap (λ s. leb (spaced_at b k (since front) + length (line_of s)) limit) (tail-lent (length text - r) text)
-        ∙ (sym (fit-spaced limit b k front behind fits)
-        ∙ ap (λ d. lines_fit limit (content d)) (sym (insertions (leftward (b ∷ spaces k)) (record { l = front; r = behind }))))
+        sym (fit-spaced limit b k d.l d.r fits)
+        ∙ ap (λ e. lines_fit limit (content e)) (sym (insertions (leftward (b ∷ spaces k)) d))
 
-    pub newline-fits : b ≡ newline → {ok : Bool} → ok ≡ leb (k + length (line_of lent)) limit
-        → ok ≡ lines_fit limit (content (splice 0 0 (leftward (b ∷ spaces k)) (ungap l r text)))
+    pub newline-fits : b ≡ newline → {ok : Bool} → ok ≡ leb (k + length (line_of d.r)) limit
+        → ok ≡ lines_fit limit (content (splice 0 0 (leftward (b ∷ spaces k)) d))
     newline-fits is looked =
-        looked ∙ (ap (λ at. leb (at + length (line_of lent)) limit) (sym (cond-true _ _ (eq-eqb b newline is))) ∙ spaced-fits)
+        looked ∙ (ap (λ at. leb (at + length (line_of d.r)) limit) (sym (cond-true _ _ (eq-eqb b newline is))) ∙ spaced-fits)
 
-    pub other_fits : ¬ (b ≡ newline) → {ok : Bool} {at : ℕ} → at ≡ since front → ok ≡ leb (at + 1 + k + length (line_of lent)) limit
-        → ok ≡ lines_fit limit (content (splice 0 0 (leftward (b ∷ spaces k)) (ungap l r text)))
+    pub other_fits : ¬ (b ≡ newline) → {ok : Bool} {at : ℕ} → at ≡ since d.l → ok ≡ leb (at + 1 + k + length (line_of d.r)) limit
+        → ok ≡ lines_fit limit (content (splice 0 0 (leftward (b ∷ spaces k)) d))
     other_fits other counted looked =
         looked
-        ∙ (ap (λ n. leb (n + 1 + k + length (line_of lent)) limit) counted
-        ∙ (ap (λ at. leb (at + length (line_of lent)) limit) (sym (cond-false _ _ (ne_eqb b newline other))) ∙ spaced-fits))
+        ∙ (ap (λ n. leb (n + 1 + k + length (line_of d.r)) limit) counted
+        ∙ (ap (λ at. leb (at + length (line_of d.r)) limit) (sym (cond-false _ _ (ne_eqb b newline other))) ∙ spaced-fits))
 
-  -- A pair. Of the text and of it no more is read than the text has room for.
-  pub runs-small : (x y : ℕ) (pair : List ℕ) → l + r + (x + y) ≤ length text
-      → length front + (length (take x pair) + length (take (x + y - x) (drop x pair))) ≤ length text
-  runs-small x y pair room = omega (arith, short-take l text, short-take x pair, short-take (x + y - x) (drop x pair), room)
-
-  pub pair_fits : (x y : ℕ) (pair : List ℕ) {ok : Bool}
-      → ok ≡ lines_fit limit (front ++ (take x pair ++ (take (x + y - x) (drop x pair) ++ lent)))
-      → ok ≡ lines_fit limit (content (splice 0 0 (unpair x y pair) (ungap l r text)))
-  unfolding ungap unpair
-  pair_fits x y pair looked =
-      let half : x + y - x ≡ y = omega arith in
-      looked ∙ ap (lines_fit limit) (rw (insertions, half, tail-lent, append_assoc))
+  -- A pair.
+  pub pair_fits : (pair : Doc) {ok : Bool} → ok ≡ lines_fit limit (d.l ++ (pair.l ++ (pair.r ++ d.r)))
+      → ok ≡ lines_fit limit (content (splice 0 0 pair d))
+  pair_fits pair looked = looked ∙ ap (lines_fit limit) (rw (insertions, append_assoc))
 
 -- A byte that is no newline, with k spaces behind it, makes its line so much longer.
 pub spaced-lines : (limit b k : ℕ) (d : Doc) → lines_fit limit (content d) ≡ true → ¬ (b ≡ newline)

@@ -4,7 +4,7 @@ use Rattle.editor.specs.Words.{Direction, Left, Right}
 use Rattle.editor.specs.Words.{Mode, Main, Quoted, Sizes, Lengths, Report}
 use Rattle.gap.specs.Rules.Sequence.{patch, zeros}
 use Rattle.gap.specs.Rules.Checks.{Check, check, unless}
-use Rattle.gap.specs.Rules.Doc.{Doc, content}
+use Rattle.gap.specs.Rules.Doc.{Doc, content, room}
 use Rattle.gap.specs.Rules.LineLimits.{lines_fit}
 use Rattle.gap.specs.Rules.Layout.{gapped, paired, ungap, unpair, IsGap, IsPair}
 use Rattle.editor.specs.declared.Edit.{Edit}
@@ -27,8 +27,8 @@ room_of Left n = n.l
 room_of Right n = n.r
 
 -- A distance that was found is within the room.
-abbrev pub InRoom : Option ℕ → Direction → ℕ → ℕ → Type 0
-InRoom answer way l r = (d : ℕ) → answer ≡ Some d → d ≤ room_of way (record { l = l; r = r; rl = 0; rr = 0 })
+abbrev pub InRoom : Option ℕ → Direction → Doc → Type 0
+InRoom answer way d = (n : ℕ) → answer ≡ Some n → n ≤ room way d
 
 abbrev pub moved_by : Direction → ℕ → Sizes → Sizes
 moved_by Left d n = record { l = n.l - d; r = n.r + d; rl = n.rl; rr = n.rr }
@@ -268,15 +268,22 @@ abbrev pub SubstitutesUnheld : Bool → Lengths → (text recall side : List ℕ
 SubstitutesUnheld here n text recall side =
     (held : List ℕ) × Sound quarter n (stores text recall held side) × Substitutes here (length text) (plain_of quarter n (stores text recall held side))
 
--- What is known before REPLACE's test of lines; and its answer, whatever recall text and held text there are.
-abbrev pub Exchanges : Bool → Lengths → (text side : List ℕ) → Type 0
-Exchanges here n text side =
-    (recall : List ℕ) × (held : List ℕ) × Sound quarter n (stores text recall held side)
-    × (let p = plain_of quarter n (stores text recall held side) in here ≡ matches p.pattern p.main.text)
+-- What REPLACE puts in, where it lies.
+abbrev pub replacing : Mode → Lengths → List ℕ → Doc
+replacing Main n side = unpair n.xl n.xr (quarter_of quarter 3 side)
+replacing Quoted n side = ungap n.quoted.l n.quoted.r (quarter_of quarter 0 side)
 
-abbrev pub ReadableExchanged : Bool → Lengths → (text side : List ℕ) → Type 0
-ReadableExchanged ok n text side =
-    (recall held : List ℕ) → Sound quarter n (stores text recall held side)
+-- What is known before REPLACE's test of lines; and its answer. Of the stores a text is meant of which d is the document, and any recall text and
+-- held text.
+abbrev pub Exchanges : Bool → Lengths → Doc → (side : List ℕ) → Type 0
+Exchanges here n d side =
+    (text : List ℕ) × (recall : List ℕ) × (held : List ℕ) × Sound quarter n (stores text recall held side)
+    × (d ≡ ungap n.main.l n.main.r text)
+    × (here ≡ matches (plain_of quarter n (stores text recall held side)).pattern d)
+
+abbrev pub ReadableExchanged : Bool → Lengths → Doc → (side : List ℕ) → Type 0
+ReadableExchanged ok n d side =
+    (text recall held : List ℕ) → Sound quarter n (stores text recall held side) → d ≡ ungap n.main.l n.main.r text
     → ok ≡ readable longest_line (replaced (plain_of quarter n (stores text recall held side))).state
 
 -- The distance over all of a text of n bytes.

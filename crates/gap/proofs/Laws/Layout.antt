@@ -130,8 +130,7 @@ module _ (l r : ℕ) (s : List ℕ) where
 pub drop-taken : (a k : ℕ) (s : List ℕ) → a + k ≤ length s → drop a (take (a + k) s) ≡ take k (drop a s)
 drop-taken a k s fits = rw take-add (drop_at (take a s) _ a (length-take-le a s (omega arith)))
 
--- What a gap store of texts of l and r bytes holds: their lengths, and what follows a place of the text, which is a run at the end of
--- the store or two runs.
+-- What a gap store of texts of l and r bytes holds: their lengths.
 module _ (l r : ℕ) (s : List ℕ) (fits : l + r ≤ length s) where
   pub length-left : length (ungap l r s).l ≡ l
   unfolding ungap
@@ -141,19 +140,13 @@ module _ (l r : ℕ) (s : List ℕ) (fits : l + r ≤ length s) where
   unfolding ungap
   length-right = rw length-drop (omega arith)
 
-  module _ (at : ℕ) where
-    pub text-right : l ≤ at → drop (length s - r + (at - l)) s ≡ drop at (content (ungap l r s))
-    unfolding ungap
-    text-right beyond =
-        let there : at ≡ length (take l s) + (at - l) = omega (arith, length-left) in
-        sym
-        (ap (λ n. drop n (take l s ++ drop (length s - r) s)) there
-        ∙ drop-append-add (take l s) _ (at - l)
-        ∙ drop-drop (at - l) (length s - r) s)
+-- What follows a place of a document: a part of what stands right of the cursor, or a part of what stands left of it and then all that stands
+-- right of it.
+module _ (d : Doc) (at : ℕ) where
+  pub drop-behind : length d.l ≤ at → drop (at - length d.l) d.r ≡ drop at (content d)
+  drop-behind beyond =
+      let there : at ≡ length d.l + (at - length d.l) = omega arith in
+      sym (ap (λ n. drop n (content d)) there ∙ drop-append-add d.l d.r (at - length d.l))
 
-    pub text-across : at < l → take (l - at) (drop at s) ++ tail_of (length s - r) s ≡ drop at (content (ungap l r s))
-    unfolding ungap
-    text-across before =
-        let both : l ≡ at + (l - at) = omega arith in
-        let front = ap (λ n. drop at (take n s)) both ∙ drop-taken at (l - at) s (omega arith) in
-        sym (drop-append-le at (take l s) _ (omega (arith, length-left)) ∙ rw (front, tail-lent))
+  pub drop-across : at < length d.l → tail_of at d.l ++ d.r ≡ drop at (content d)
+  drop-across before = ap (λ rest. rest ++ d.r) (tail-lent at d.l) ∙ sym (drop-append-le at d.l d.r (omega arith))

@@ -1,4 +1,5 @@
 -- `editor::finds::nearest_match` meets its contract: no place before d has a match, and a block is passed at once.
+use mathlib.Core.Path.{sym, ◌∙◌}
 use native.Mathlib.Omega.{arith}
 use Rattle.gap.proofs.Laws.Scans.{scan-start}
 use Rattle.gap.proofs.Laws.RowScans.{row-none, row-found, row_last}
@@ -8,16 +9,16 @@ use Rattle.editor.proofs.finds.nearest_match.Goals as goal
 pub loop-d-init : goal.loop-d-init
 loop-d-init c = (omega arith, scan-start _ _ _)
 
-pub block_match-found-requires : goal.block_match-found-requires
-block_match-found-requires c =
+pub block_match-requires : goal.block_match-requires
+block_match-requires c =
     record { reach = reach-part c.requires.reach (omega arith) (omega arith) (omega arith); k_in_bounds = c.telling-k.ensures.within }
 
-pub returns-in_default : goal.returns-in_default
-returns-in_default c = row-found c.loop-d.invariant.1 32 (omega arith) c.block_match-found.ensures c.in_default.is
+pub returns-in-Some : goal.returns-in-Some
+returns-in-Some c = sym c.in-Some.is ∙ row-found c.loop-d.invariant.1 32 (omega arith) c.block_match.ensures c.in-Some.is
 
 pub loop-d-preserved : goal.loop-d-preserved
 loop-d-preserved c =
-    let passed = row-none c.loop-d.invariant.1 32 (omega arith) c.block_match-found.ensures c.in-None.is in
+    let passed = row-none c.loop-d.invariant.1 32 (omega arith) c.block_match.ensures c.in_default.is in
     (omega arith, passed)
 
 pub first_match-requires : goal.first_match-requires

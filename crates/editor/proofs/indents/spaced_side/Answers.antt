@@ -9,9 +9,9 @@ returns-then-text-l c = λ recall on. spaced-refused on _ _ refl c.if-text-l.tru
 
 pub returns-then-not-run_fits : goal.returns-then-not-run_fits
 returns-then-not-run_fits c =
-    λ recall on. spaced-long on _ _ refl c.if-text-l.false (sym c.run_fits.ensures ∙ c.if-not-run_fits.true)
+    λ recall on. spaced-long on _ _ refl c.if-text-l.false (sym (rw c.of.ensures.holds at c.run_fits.ensures) ∙ c.if-not-run_fits.true)
 
 pub returns : goal.returns
 returns c =
     λ recall on. spaced-done on _ _ refl c.went.ensures c.if-text-l.false
-    (sym c.run_fits.ensures ∙ c.if-not-run_fits.false) c.insert_spaced.ensures
+    (sym (rw c.of.ensures.holds at c.run_fits.ensures) ∙ c.if-not-run_fits.false) c.insert_spaced.ensures

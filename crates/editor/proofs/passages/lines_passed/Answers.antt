@@ -1,23 +1,24 @@
--- `lines_passed`, in each direction: the run that is counted lies beside the gap.
-use mathlib.Core.Path.{ap, ◌∙◌}
-use native.Mathlib.Omega.{arith}
+-- `lines_passed`, in each direction: the run that is counted lies beside the cursor.
+use mathlib.Core.Path.{sym, ap, ◌∙◌}
+use lib.Seq.{length-take-le}
+use Rattle.gap.specs.Rules.Doc.{passed}
 use Rattle.gap.specs.Rules.Lines.{newlines}
-use Rattle.editor.proofs.Laws.Passages.{passed-left, passed-right}
+use Rattle.gap.specs.Wording.Views.{seen}
+use Rattle.gap.proofs.Laws.Runs.{tail-lent}
 use Rattle.editor.proofs.passages.lines_passed.Goals as goal
 
 pub overflow_sub-from : goal.overflow_sub-from
-overflow_sub-from c = rw c.in-Left.is at c.requires.d_bound
-
-pub overflow_add-end : goal.overflow_add-end
-overflow_add-end c = omega (arith, rw c.in-Right.is at c.requires.d_bound)
+unfolding seen
+overflow_sub-from c = rw c.in-Left.is at c.requires
 
 pub slice_bounds-count_newlines-end-in-Right : goal.slice_bounds-count_newlines-end-in-Right
-slice_bounds-count_newlines-end-in-Right c = omega (arith, rw c.in-Right.is at c.requires.d_bound)
+unfolding seen
+slice_bounds-count_newlines-end-in-Right c = sym (length-take-le _ _ (rw c.in-Right.is at c.requires))
 
 pub returns-in-Left : goal.returns-in-Left
-returns-in-Left c =
-    let near = rw c.in-Left.is at c.requires.d_bound in
-    rw c.in-Left.is (c.count_newlines.ensures ∙ ap newlines (passed-left _ _ _ _ c.requires.r_in_bounds near))
+unfolding seen passed
+returns-in-Left c = rw c.in-Left.is (c.count_newlines.ensures ∙ ap newlines (tail-lent _ c.args.d.l.now))
 
 pub returns-in-Right : goal.returns-in-Right
-returns-in-Right c = rw c.in-Right.is (c.count_newlines-in-Right.ensures ∙ ap newlines (passed-right _ _ _ _ c.requires.r_in_bounds))
+unfolding seen passed
+returns-in-Right c = rw c.in-Right.is c.count_newlines-in-Right.ensures

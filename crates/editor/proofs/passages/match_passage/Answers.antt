@@ -5,7 +5,7 @@ use Rattle.editor.proofs.Laws.SideEdits.{distance-in-room}
 use Rattle.editor.proofs.passages.match_passage.Goals as goal
 
 pub with_lines-requires : goal.with_lines-requires
-with_lines-requires c = record { r_in_bounds = c.requires; in_room = distance-in-room _ _ _ _ _ c.requires c.match_distance.ensures }
+with_lines-requires c = distance-in-room _ _ _ c.match_distance.ensures
 
 pub returns : goal.returns
 unfolding passage_to

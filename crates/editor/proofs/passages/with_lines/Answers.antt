@@ -7,7 +7,7 @@ pub returns-in_err-steps : goal.returns-in_err-steps
 returns-in_err-steps c = c.from_residual.ensures ∙ lines-nowhere _ _ c.in_err-steps.was
 
 pub lines_passed-requires : goal.lines_passed-requires
-lines_passed-requires c = record { r_in_bounds = c.requires.r_in_bounds; d_bound = c.requires.in_room _ c.in_ok-steps.was }
+lines_passed-requires c = c.requires _ c.in_ok-steps.was
 
 pub returns : goal.returns
 returns c = lines-reached _ _ c.in_ok-steps.was c.lines_passed.ensures

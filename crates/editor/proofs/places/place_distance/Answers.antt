@@ -1,9 +1,12 @@
--- `places::place_distance` meets its contract: in a gap store the texts stand at the two ends.
-use Rattle.editor.proofs.Laws.PlaceScans.{gap-left, gap-right}
+-- `places::place_distance`: on either side it is a search through the text there.
+use Rattle.gap.specs.Wording.Views.{seen}
+use Rattle.editor.proofs.Laws.PlaceScans.{found-left, found-right}
 use Rattle.editor.proofs.places.place_distance.Goals as goal
 
 pub returns-in-Left : goal.returns-in-Left
-returns-in-Left c = gap-left _ _ _ _ c.in-Left.is c.text_distance.ensures
+unfolding seen
+returns-in-Left c = found-left _ _ c.in-Left.is c.text_distance.ensures
 
 pub returns-in-Right : goal.returns-in-Right
-returns-in-Right c = gap-right _ _ _ _ c.in-Right.is c.text_distance-in-Right.ensures
+unfolding seen
+returns-in-Right c = found-right _ _ c.in-Right.is c.text_distance-in-Right.ensures

@@ -17,21 +17,21 @@ pub slice_bounds-match_passage-end : goal.slice_bounds-match_passage-end
 unfolding quarter
 slice_bounds-match_passage-end c = omega (arith, c.requires.pattern, c.requires.quarters)
 
-pub match_passage-requires : goal.match_passage-requires
-match_passage-requires c = c.requires.document.fits
+pub of-document-requires : goal.of-document-requires
+of-document-requires c = c.requires.document.fits
 
 pub returns-in_default : goal.returns-in_default
 unfolding quarter
 returns-in_default c =
-    λ recall held sound. search-done quarter _ _ sound _ _ _ c.match_passage.ensures c.in_default.is _ _ _ _ refl
+    λ recall held sound. search-done quarter _ _ sound _ _ _ (rw c.of-document.ensures.holds at c.match_passage.ensures) c.in_default.is _ _ _ _ refl
     (not_carried (on-side quarter _ _ sound Main) Move _ refl refl)
 
 pub move_side-t-requires : goal.move_side-t-requires
 move_side-t-requires c =
-    record { gap = c.requires.document; steps_bound = within-room c.args.n.main c.requires.document _ _ c.match_passage.ensures c.in-Some.is }
+    record { gap = c.requires.document; steps_bound = within-room c.args.n.main c.requires.document _ _ (rw c.of-document.ensures.holds at c.match_passage.ensures) c.in-Some.is }
 
 pub returns : goal.returns
 unfolding quarter
 returns c =
-    λ recall held sound. search-done quarter _ _ sound _ _ _ c.match_passage.ensures c.in-Some.is _ _ _ _ (ap editor_done c.lifted.ensures)
+    λ recall held sound. search-done quarter _ _ sound _ _ _ (rw c.of-document.ensures.holds at c.match_passage.ensures) c.in-Some.is _ _ _ _ (ap editor_done c.lifted.ensures)
     (c.move_side-t.ensures _ _ (on-side quarter _ _ sound Main))

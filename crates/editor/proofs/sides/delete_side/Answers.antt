@@ -9,15 +9,16 @@ pub overflow_sub-l : goal.overflow_sub-l
 overflow_sub-l c = rw c.in-Left.is at c.requires.steps_bound
 
 pub join_fits-requires : goal.join_fits-requires
-join_fits-requires c =
-    let enough = rw c.in-Left.is at c.requires.steps_bound in
-    record { r_in_bounds = omega (arith, c.requires.on_side.gap.fits, enough); halves_fit = kept-halves c.requires.on_side Left _ enough }
+join_fits-requires c = rw c.of.ensures.holds (kept-halves c.requires.on_side Left _ (rw c.in-Left.is at c.requires.steps_bound))
+
+pub of-requires : goal.of-requires
+of-requires c = omega (arith, c.requires.on_side.gap.fits, rw c.in-Left.is at c.requires.steps_bound)
 
 pub returns-then-not-join_fits : goal.returns-then-not-join_fits
 returns-then-not-join_fits c =
     rw c.in-Left.is
     (deleted-long c.requires.on_side Left _ _ refl (rw c.in-Left.is at c.requires.steps_bound)
-    (sym c.join_fits.ensures ∙ c.if-not-join_fits.true))
+    (sym (rw c.of.ensures.holds at c.join_fits.ensures) ∙ c.if-not-join_fits.true))
 
 pub delete_left-requires : goal.delete_left-requires
 delete_left-requires c =
@@ -31,15 +32,16 @@ pub overflow_sub-r : goal.overflow_sub-r
 overflow_sub-r c = rw c.in-Right.is at c.requires.steps_bound
 
 pub join_fits-requires-in-Right : goal.join_fits-requires-in-Right
-join_fits-requires-in-Right c =
-    let enough = rw c.in-Right.is at c.requires.steps_bound in
-    record { r_in_bounds = omega (arith, c.requires.on_side.gap.fits, enough); halves_fit = kept-halves c.requires.on_side Right _ enough }
+join_fits-requires-in-Right c = rw c.of-in-Right.ensures.holds (kept-halves c.requires.on_side Right _ (rw c.in-Right.is at c.requires.steps_bound))
+
+pub of-requires-in-Right : goal.of-requires-in-Right
+of-requires-in-Right c = omega (arith, c.requires.on_side.gap.fits, rw c.in-Right.is at c.requires.steps_bound)
 
 pub returns-then-not-join_fits-2 : goal.returns-then-not-join_fits-2
 returns-then-not-join_fits-2 c =
     rw c.in-Right.is
     (deleted-long c.requires.on_side Right _ _ refl (rw c.in-Right.is at c.requires.steps_bound)
-    (sym c.join_fits-in-Right.ensures ∙ c.if-not-join_fits-2.true))
+    (sym (rw c.of-in-Right.ensures.holds at c.join_fits-in-Right.ensures) ∙ c.if-not-join_fits-2.true))
 
 pub delete_right-requires : goal.delete_right-requires
 delete_right-requires c =
@@ -53,10 +55,10 @@ pub returns-else-not-join_fits : goal.returns-else-not-join_fits
 returns-else-not-join_fits c =
     rw c.in-Left.is
     (deleted c.requires.on_side Left refl c.went.ensures (rw c.in-Left.is at c.requires.steps_bound)
-    (sym c.join_fits.ensures ∙ c.if-not-join_fits.false) refl c.delete_left.ensures.s_after c.delete_left.ensures.pair_after)
+    (sym (rw c.of.ensures.holds at c.join_fits.ensures) ∙ c.if-not-join_fits.false) refl c.delete_left.ensures.s_after c.delete_left.ensures.pair_after)
 
 pub returns-else-not-join_fits-2 : goal.returns-else-not-join_fits-2
 returns-else-not-join_fits-2 c =
     rw c.in-Right.is
     (deleted c.requires.on_side Right refl c.went-in-Right.ensures (rw c.in-Right.is at c.requires.steps_bound)
-    (sym c.join_fits-in-Right.ensures ∙ c.if-not-join_fits-2.false) refl c.delete_right.ensures.s_after c.delete_right.ensures.pair_after)
+    (sym (rw c.of-in-Right.ensures.holds at c.join_fits-in-Right.ensures) ∙ c.if-not-join_fits-2.false) refl c.delete_right.ensures.s_after c.delete_right.ensures.pair_after)

@@ -8,9 +8,9 @@ returns-then-text-l c = λ recall on. insert-refused on _ refl c.if-text-l.true
 
 pub returns-then-not-run_fits : goal.returns-then-not-run_fits
 returns-then-not-run_fits c =
-    λ recall on. insert-long on _ refl c.if-text-l.false (sym c.run_fits.ensures ∙ c.if-not-run_fits.true)
+    λ recall on. insert-long on _ refl c.if-text-l.false (sym (rw c.of.ensures.holds at c.run_fits.ensures) ∙ c.if-not-run_fits.true)
 
 pub returns : goal.returns
 returns c =
-    λ recall on. insert-done on _ refl refl c.if-text-l.false (sym c.run_fits.ensures ∙ c.if-not-run_fits.false)
+    λ recall on. insert-done on _ refl refl c.if-text-l.false (sym (rw c.of.ensures.holds at c.run_fits.ensures) ∙ c.if-not-run_fits.false)
     c.insert.ensures

@@ -8,18 +8,30 @@ use Rattle.editor.proofs.sides.recall_side.Goals as goal
 pub returns-then-text-l : goal.returns-then-text-l
 returns-then-text-l c = recall-refused c.requires refl c.if-text-l.true
 
+pub of-requires : goal.of-requires
+of-requires c = c.requires.gap.fits
+
+pub of_pair-requires : goal.of_pair-requires
+of_pair-requires c = c.requires.pair.fits
+
 pub pair_fits-requires : goal.pair_fits-requires
 pair_fits-requires c =
     record {
-      y_in_bounds = (omega (arith, c.requires.gap.fits, c.if-text-l.false), c.requires.pair.fits);
-      halves_fit = halves-fit _ _ _ _ c.requires.lines;
+      lengths = omega (
+        arith,
+        c.requires.gap.fits,
+        c.if-text-l.false,
+        c.of.ensures.lengths,
+        c.of_pair.ensures.lengths,
+      );
+      halves_fit = rw c.of.ensures.holds (halves-fit _ _ c.requires.lines);
     }
 
 pub returns-then-not-pair_fits : goal.returns-then-not-pair_fits
 returns-then-not-pair_fits c =
-    recall-long c.requires refl c.if-text-l.false (sym c.pair_fits.ensures ∙ c.if-not-pair_fits.true)
+    recall-long c.requires refl c.if-text-l.false (sym (rw (c.of.ensures.holds, c.of_pair.ensures.holds) at c.pair_fits.ensures) ∙ c.if-not-pair_fits.true)
 
 pub returns : goal.returns
 returns c =
-    recall-done c.requires refl refl c.if-text-l.false (sym c.pair_fits.ensures ∙ c.if-not-pair_fits.false)
+    recall-done c.requires refl refl c.if-text-l.false (sym (rw (c.of.ensures.holds, c.of_pair.ensures.holds) at c.pair_fits.ensures) ∙ c.if-not-pair_fits.false)
     c.place_pair.ensures
