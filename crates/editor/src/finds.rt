@@ -57,14 +57,10 @@ fn telling(pattern: &[u8]) -> usize
 {
     let head = pattern[0];
     let last = pattern.len() - 1;
-    let mut k = 0;
-    while k < last {
-        if pattern[k] != head {
-            return k;
-        }
-        k += 1;
-    }
-    k
+    pattern[..last]
+        .iter()
+        .position(|&b| b != head)
+        .unwrap_or(last)
 }
 
 // A match may begin at place `at`, by three bytes of the pattern: the first, the telling one at k and the last.
@@ -82,10 +78,8 @@ fn none_likely(t: &[u8], at: usize, pattern: &[u8], k: usize) -> bool
     ensures { result ≡ every (λ place. not (likely_at pattern.now k t.now place)) (counted 32 at) }
 {
     let mut none = true;
-    let mut i = 0;
-    while i < 32 {
+    for i in 0..32 {
         none = none & !likely(t, at + i, pattern, k);
-        i += 1;
     }
     none
 }
@@ -127,12 +121,10 @@ fn first_match(
     requires k_in_bounds { k < length pattern.now }
     ensures { result ≡ nearest (match_away way pattern.now t.now) (to - from) from }
 {
-    let mut d = from;
-    while d < to {
+    for d in from..to {
         if match_away(way, t, d, pattern, k) {
             return Some(d);
         }
-        d += 1;
     }
     None
 }
@@ -157,14 +149,13 @@ fn nearest_match(way: Direction, t: &[u8], from: usize, to: usize, pattern: &[u8
     ensures { result ≡ nearest (match_away way pattern.now t.now) (to - from) from }
 {
     let k = telling(pattern);
-    let mut d = from;
-    while 32 <= to - d {
-        if let Some(found) = block_match(way, t, d, pattern, k) {
+    let blocks = (to - from) / 32;
+    for block in 0..blocks {
+        if let Some(found) = block_match(way, t, from + 32 * block, pattern, k) {
             return Some(found);
         }
-        d += 32;
     }
-    first_match(way, t, d, to, pattern, k)
+    first_match(way, t, from + 32 * blocks, to, pattern, k)
 }
 
 // The distance to the nearest match on the right: the text behind the cursor is one run. Near its end there is no room for one.

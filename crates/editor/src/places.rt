@@ -124,13 +124,11 @@ fn scan(place: Place, way: Direction, t: &[u8]) -> Option<usize>
     ensures { (other : List ℕ) → result ≡ distance way (is_at place way) (facing way t.now other) }
 {
     let n = t.len();
-    let mut d = 1;
-    while d <= n {
+    for d in 1..n + 1 {
         let p = lowest_place(way, n, d, d);
         if stands(place, way, t, p) {
             return Some(d);
         }
-        d += 1;
     }
     None
 }

@@ -6,6 +6,3 @@ use Rattle.editor.proofs.finds.first_match.Given as goal
 
 abbrev pub invariant-loop-d : goal.invariant-loop-d
 invariant-loop-d l = (l.from ≤ l.d) × Scan (match_away l.way l.pattern l.t) (l.to - l.from) l.from l.d
-
-abbrev pub decreases-loop-d : goal.decreases-loop-d
-decreases-loop-d l = l.to - l.d

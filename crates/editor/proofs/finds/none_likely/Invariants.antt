@@ -8,6 +8,3 @@ use Rattle.editor.proofs.finds.none_likely.Given as goal
 
 abbrev pub invariant-loop-i : goal.invariant-loop-i
 invariant-loop-i l = Tested (λ place. not (likely_at l.pattern l.k l.t place)) (counted 32 l.at) l.none l.i
-
-abbrev pub decreases-loop-i : goal.decreases-loop-i
-decreases-loop-i l = 32 - l.i

@@ -7,6 +7,3 @@ use Rattle.editor.proofs.places.scan.Given as goal
 
 abbrev pub invariant-loop-d : goal.invariant-loop-d
 invariant-loop-d l = Scan (place_away l.place l.way l.t) (length l.t) 1 l.d
-
-abbrev pub decreases-loop-d : goal.decreases-loop-d
-decreases-loop-d l = length l.t + 1 - l.d
