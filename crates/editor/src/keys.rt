@@ -46,10 +46,7 @@ pub fn sound_function(action: Action, way: Direction, place: Place) -> bool
 fn is_main(mode: Mode) -> bool
     ensures { result ≡ is_main mode }
 {
-    match mode {
-        Mode::Main => true,
-        Mode::Quoted => false,
-    }
+    matches!(mode, Mode::Main)
 }
 
 pub fn sound_key(mode: Mode, k: Key) -> bool

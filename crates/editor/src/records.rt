@@ -31,7 +31,7 @@ pub fn went(n: usize, lines: usize) -> Report
 {
     Report {
         steps: n,
-        lines: lines,
+        lines,
         bell: false,
     }
 }
@@ -53,16 +53,9 @@ pub fn lifted(mode: Mode, n: Lengths, t: SideDone) -> EditorDone
 fn sized_in(mode: Mode, n: Lengths, sizes: Sizes) -> Lengths
     ensures { result ≡ sized_in mode sizes n }
 {
-    let mut m = n;
     match mode {
-        Mode::Main => {
-            m.main = sizes;
-            m
-        }
-        Mode::Quoted => {
-            m.quoted = sizes;
-            m
-        }
+        Mode::Main => Lengths { main: sizes, ..n },
+        Mode::Quoted => Lengths { quoted: sizes, ..n },
     }
 }
 
@@ -72,20 +65,17 @@ pub fn moved_by(way: Direction, d: usize, n: Sizes) -> Sizes
     requires r_bound { n.l + n.r < 2 ^ 64 }
     ensures { result ≡ moved_by way d n }
 {
-    let l = n.l;
-    let r = n.r;
-    let mut m = n;
     match way {
-        Direction::Left => {
-            m.l = l - d;
-            m.r = r + d;
-            m
-        }
-        Direction::Right => {
-            m.l = l + d;
-            m.r = r - d;
-            m
-        }
+        Direction::Left => Sizes {
+            l: n.l - d,
+            r: n.r + d,
+            ..n
+        },
+        Direction::Right => Sizes {
+            l: n.l + d,
+            r: n.r - d,
+            ..n
+        },
     }
 }
 
@@ -123,18 +113,10 @@ pub fn opening_lengths(n: usize) -> Lengths
 pub fn cleared(n: Lengths, mode: Mode) -> Lengths
     ensures { result ≡ cleared mode n }
 {
-    let main = n.main;
-    let mark = n.mark;
     Lengths {
-        main: main,
         quoted: NO_SIZES,
-        xl: n.xl,
-        xr: n.xr,
-        pl: n.pl,
-        mode: mode,
-        hl: n.hl,
-        hr: n.hr,
-        mark: mark,
+        mode,
+        ..n
     }
 }
 
@@ -148,9 +130,10 @@ pub fn pattern_taken(n: Lengths) -> Lengths
     match mode {
         Mode::Main => n,
         Mode::Quoted => {
-            let mut m = cleared(n, Mode::Main);
-            m.pl = quoted.l + quoted.r;
-            m
+            Lengths {
+                pl: quoted.l + quoted.r,
+                ..cleared(n, Mode::Main)
+            }
         }
     }
 }
@@ -164,10 +147,11 @@ pub fn replacement_taken(n: Lengths) -> Lengths
     match mode {
         Mode::Main => n,
         Mode::Quoted => {
-            let mut m = cleared(n, Mode::Main);
-            m.xl = quoted.l;
-            m.xr = quoted.r;
-            m
+            Lengths {
+                xl: quoted.l,
+                xr: quoted.r,
+                ..cleared(n, Mode::Main)
+            }
         }
     }
 }
@@ -178,44 +162,34 @@ pub fn replacement_taken(n: Lengths) -> Lengths
 pub fn marked_at(n: Lengths, mark: Option<usize>) -> Lengths
     ensures { result ≡ marked_at mark n }
 {
-    let main = n.main;
-    let quoted = n.quoted;
-    let mode = n.mode;
-    Lengths {
-        main: main,
-        quoted: quoted,
-        xl: n.xl,
-        xr: n.xr,
-        pl: n.pl,
-        mode: mode,
-        hl: n.hl,
-        hr: n.hr,
-        mark: mark,
-    }
+    Lengths { mark, ..n }
 }
 
 // The document's sizes with the held pair in the place of its recall text.
 pub fn holding_sizes(n: Lengths) -> Sizes
     ensures { result ≡ holding_sizes n }
 {
-    let mut m = n.main;
-    m.rl = n.hl;
-    m.rr = n.hr;
-    m
+    Sizes {
+        rl: n.hl,
+        rr: n.hr,
+        ..n.main
+    }
 }
 
 // The lengths with such sizes put in.
 fn held_in(n: Lengths, sizes: Sizes) -> Lengths
     ensures { result ≡ held_in sizes n }
 {
-    let mut main = n.main;
-    main.l = sizes.l;
-    main.r = sizes.r;
-    let mut m = n;
-    m.main = main;
-    m.hl = sizes.rl;
-    m.hr = sizes.rr;
-    m
+    Lengths {
+        main: Sizes {
+            l: sizes.l,
+            r: sizes.r,
+            ..n.main
+        },
+        hl: sizes.rl,
+        hr: sizes.rr,
+        ..n
+    }
 }
 
 // A key on the document with the held pair in the place of its recall text, as one of the whole layer, with this mark.

@@ -2,17 +2,17 @@
 use native.Mathlib.Omega.{arith}
 use Rattle.editor.proofs.records.moved_by.Goals as goal
 
-pub overflow_sub-m : goal.overflow_sub-m
-overflow_sub-m c = rw c.in-Left.is at c.requires.d_bound
+pub overflow_sub-result : goal.overflow_sub-result
+overflow_sub-result c = rw c.in-Left.is at c.requires.d_bound
 
-pub overflow_add-m : goal.overflow_add-m
-overflow_add-m c = omega (arith, rw c.in-Left.is at c.requires.d_bound, c.requires.r_bound)
+pub overflow_add-result : goal.overflow_add-result
+overflow_add-result c = omega (arith, rw c.in-Left.is at c.requires.d_bound, c.requires.r_bound)
 
-pub overflow_add-m-in-Right : goal.overflow_add-m-in-Right
-overflow_add-m-in-Right c = omega (arith, rw c.in-Right.is at c.requires.d_bound, c.requires.r_bound)
+pub overflow_add-result-in-Right : goal.overflow_add-result-in-Right
+overflow_add-result-in-Right c = omega (arith, rw c.in-Right.is at c.requires.d_bound, c.requires.r_bound)
 
-pub overflow_sub-m-in-Right : goal.overflow_sub-m-in-Right
-overflow_sub-m-in-Right c = rw c.in-Right.is at c.requires.d_bound
+pub overflow_sub-result-in-Right : goal.overflow_sub-result-in-Right
+overflow_sub-result-in-Right c = rw c.in-Right.is at c.requires.d_bound
 
 pub returns-in-Left : goal.returns-in-Left
 returns-in-Left c = rw c.in-Left.is

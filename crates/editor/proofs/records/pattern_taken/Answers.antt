@@ -5,4 +5,4 @@ pub returns-in-Main : goal.returns-in-Main
 returns-in-Main c = rw c.in-Main.is
 
 pub returns-in-Quoted : goal.returns-in-Quoted
-returns-in-Quoted c = rw (c.cleared-m.ensures, c.in-Quoted.is)
+returns-in-Quoted c = rw (c.cleared.ensures, c.in-Quoted.is)
