@@ -81,17 +81,14 @@ fn edit_key(
     ensures { EditsUnheld (editor_reply n result) n (λ T p. bounded T quarter (on_side (editing e) p)) text.old recall.old side.old
         text.new recall.new side.new }
 {
-    let mode = n.mode;
-    let main = n.main;
-    let quoted = n.quoted;
-    match mode {
+    match n.mode {
         Mode::Main => {
-            let t = on_side(LONGEST_LINE, e, main, text, recall)?;
-            Ok(lifted(mode, n, t))
+            let t = on_side(LONGEST_LINE, e, n.main, text, recall)?;
+            Ok(lifted(n.mode, n, t))
         }
         Mode::Quoted => {
-            let t = edit_quotation(e, quoted, side)?;
-            Ok(lifted(mode, n, t))
+            let t = edit_quotation(e, n.quoted, side)?;
+            Ok(lifted(n.mode, n, t))
         }
     }
 }
@@ -145,8 +142,7 @@ pub fn press_session(
         (stores text.old recall.old held.old side.old)
         (stores text.new recall.new held.new side.new) }
 {
-    let mode = n.mode;
-    if !sound_key(mode, k) {
+    if !sound_key(n.mode, k) {
         return Err(Refusal::Key);
     }
     let done = act(n, k, text, recall, held, side)?;

@@ -20,10 +20,9 @@ use gap::Direction;
 pub fn mark_key(n: Lengths) -> EditorDone
     ensures { EditsAny (editor_done result) n (λ T p. bounded T quarter (marked_here p)) }
 {
-    let main = n.main;
     EditorDone {
         report: QUIET,
-        lengths: marked_at(n, Some(main.l)),
+        lengths: marked_at(n, Some(n.main.l)),
     }
 }
 
@@ -33,8 +32,7 @@ pub fn cut_key(n: Lengths, text: &mut [u8], held: &mut [u8]) -> Result<EditorDon
     requires mark_value { mark_within (n.main.l + n.main.r) n.mark ≡ true }
     ensures { EditsHeld (editor_reply n result) n (λ T p. bounded T quarter (cut p)) text.old held.old text.new held.new }
 {
-    let mark = n.mark;
-    let Some(m) = mark else {
+    let Some(m) = n.mark else {
         return Ok(EditorDone {
             report: RANG,
             lengths: n,
@@ -63,9 +61,8 @@ pub fn paste_key(n: Lengths, text: &mut [u8], held: &[u8]) -> Result<EditorDone,
     requires { OnSide longest_line (holding_sizes n) text.old held.now }
     ensures { EditsHeld (editor_reply n result) n (λ T p. bounded T quarter (pasted p)) text.old held.now text.new held.now }
 {
-    let mark = n.mark;
     let t = recall_side(LONGEST_LINE, holding_sizes(n), text, held)?;
-    Ok(lifted_held(n, mark, t))
+    Ok(lifted_held(n, n.mark, t))
 }
 
 // ---- The mark through a change
@@ -134,23 +131,21 @@ fn exchange_of(k: Key, n: Lengths, report: Report, m: Lengths) -> Exchange
     requires xr_bound { m.xl + m.xr < 2 ^ 64 }
     ensures { result ≡ exchange_of k n report m }
 {
-    let mode = n.mode;
-    let main = n.main;
     match k {
-        Key::Insert(_) => in_document(mode, coming(1)),
+        Key::Insert(_) => in_document(n.mode, coming(1)),
         Key::Function(action, way, _) => match action {
             Action::Move => NOTHING,
-            Action::Delete => in_document(mode, going(way, report.steps)),
+            Action::Delete => in_document(n.mode, going(way, report.steps)),
         },
-        Key::Recall => in_document(mode, coming(main.rl + main.rr)),
+        Key::Recall => in_document(n.mode, coming(n.main.rl + n.main.rr)),
         Key::Quote => NOTHING,
         Key::Find(_) => NOTHING,
         Key::Replace => replacing(report, m),
         Key::Mark => NOTHING,
         Key::Cut => NOTHING,
         Key::Paste => coming(n.hl + n.hr),
-        Key::Newline => in_document(mode, coming(report.steps)),
-        Key::Tab => in_document(mode, coming(report.steps)),
+        Key::Newline => in_document(n.mode, coming(report.steps)),
+        Key::Tab => in_document(n.mode, coming(report.steps)),
     }
 }
 
@@ -181,13 +176,10 @@ pub fn followed(k: Key, n: Lengths, done: EditorDone) -> EditorDone
     requires { Followable k n (editor_done done) }
     ensures { editor_done result ≡ followed_reply k n (editor_done done) }
 {
-    let main = n.main;
-    let report = done.report;
     let m = done.lengths;
-    let mark = m.mark;
-    let e = exchange_of(k, n, report, m);
+    let e = exchange_of(k, n, done.report, m);
     EditorDone {
-        report,
-        lengths: marked_at(m, mark_through(e, main.l, mark)),
+        report: done.report,
+        lengths: marked_at(m, mark_through(e, n.main.l, m.mark)),
     }
 }

@@ -43,11 +43,10 @@ pub fn quote_key(n: Lengths, side: &mut [u8]) -> EditorDone
     requires { length side.old ≡ 4 * quarter }
     ensures { EditsQuotation (editor_done result) n (λ T p. bounded T quarter (quoted p)) side.old side.new }
 {
-    let mode = n.mode;
     vacate(side, 0, 2 * QUARTER);
     EditorDone {
         report: QUIET,
-        lengths: cleared(n, other_mode(mode)),
+        lengths: cleared(n, other_mode(n.mode)),
     }
 }
 

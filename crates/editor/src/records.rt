@@ -40,10 +40,9 @@ pub fn went(n: usize, lines: usize) -> Report
 pub fn lifted(mode: Mode, n: Lengths, t: SideDone) -> EditorDone
     ensures { result ≡ record { report = t.report; lengths = sized_in mode t.sizes n } }
 {
-    let sizes = t.sizes;
     EditorDone {
         report: t.report,
-        lengths: sized_in(mode, n, sizes),
+        lengths: sized_in(mode, n, t.sizes),
     }
 }
 
@@ -125,13 +124,11 @@ pub fn pattern_taken(n: Lengths) -> Lengths
     requires { n.quoted.l + n.quoted.r < 2 ^ 64 }
     ensures { result ≡ pattern_taken n.mode n }
 {
-    let mode = n.mode;
-    let quoted = n.quoted;
-    match mode {
+    match n.mode {
         Mode::Main => n,
         Mode::Quoted => {
             Lengths {
-                pl: quoted.l + quoted.r,
+                pl: n.quoted.l + n.quoted.r,
                 ..cleared(n, Mode::Main)
             }
         }
@@ -142,14 +139,12 @@ pub fn pattern_taken(n: Lengths) -> Lengths
 pub fn replacement_taken(n: Lengths) -> Lengths
     ensures { result ≡ replacement_taken n.mode n }
 {
-    let mode = n.mode;
-    let quoted = n.quoted;
-    match mode {
+    match n.mode {
         Mode::Main => n,
         Mode::Quoted => {
             Lengths {
-                xl: quoted.l,
-                xr: quoted.r,
+                xl: n.quoted.l,
+                xr: n.quoted.r,
                 ..cleared(n, Mode::Main)
             }
         }
@@ -196,9 +191,8 @@ fn held_in(n: Lengths, sizes: Sizes) -> Lengths
 pub fn lifted_held(n: Lengths, mark: Option<usize>, t: SideDone) -> EditorDone
     ensures { result ≡ record { report = t.report; lengths = held_in t.sizes (marked_at mark n) } }
 {
-    let sizes = t.sizes;
     EditorDone {
         report: t.report,
-        lengths: held_in(marked_at(n, mark), sizes),
+        lengths: held_in(marked_at(n, mark), t.sizes),
     }
 }

@@ -25,16 +25,15 @@ fn search(way: Direction, n: Lengths, text: &mut [u8], side: &[u8]) -> EditorDon
     requires { Searchable n text.old side.now }
     ensures { EditsTexts (editor_done result) n (λ T p. done (searched way p)) text.old side.now text.new side.now }
 {
-    let main = n.main;
     let end = 2 * QUARTER + n.pl;
-    let document = View::of(text, main.l, main.r);
+    let document = View::of(text, n.main.l, n.main.r);
     let Some(passage) = match_passage(way, document, &side[2 * QUARTER..end]) else {
         return EditorDone {
             report: RANG,
             lengths: n,
         };
     };
-    let t = move_side(way, passage, main, text);
+    let t = move_side(way, passage, n.main, text);
     lifted(Mode::Main, n, t)
 }
 
@@ -43,9 +42,7 @@ pub fn find_key(way: Direction, n: Lengths, text: &mut [u8], side: &mut [u8]) ->
     requires { Searchable n text.old side.old }
     ensures { EditsTexts (editor_done result) n (λ T p. bounded T quarter (found way p)) text.old side.old text.new side.new }
 {
-    let mode = n.mode;
-    let quoted = n.quoted;
-    hand_quotation(mode, quoted, 2 * QUARTER, side);
+    hand_quotation(n.mode, n.quoted, 2 * QUARTER, side);
     search(way, pattern_taken(n), text, side)
 }
 
@@ -93,8 +90,7 @@ fn exchange_fits(here: bool, size: usize, n: Lengths) -> bool
     if !here {
         return true;
     }
-    let main = n.main;
-    n.xl + n.xr <= size - (main.l + main.r - n.pl)
+    n.xl + n.xr <= size - (n.main.l + n.main.r - n.pl)
 }
 
 // What REPLACE puts in: in MAIN the replacement, in QUOTED the quotation, which becomes the replacement.
@@ -103,11 +99,9 @@ fn replacing<'a>(n: Lengths, side: &'a [u8]) -> View<'a>
     requires fits { (n.xl + n.xr ≤ quarter) × (n.quoted.l + n.quoted.r ≤ quarter) }
     ensures { seen result ≡ replacing n.mode n side.now }
 {
-    let mode = n.mode;
-    let quoted = n.quoted;
-    match mode {
+    match n.mode {
         Mode::Main => View::of_pair(&side[3 * QUARTER..4 * QUARTER], n.xl, n.xr),
-        Mode::Quoted => View::of(&side[..QUARTER], quoted.l, quoted.r),
+        Mode::Quoted => View::of(&side[..QUARTER], n.quoted.l, n.quoted.r),
     }
 }
 
@@ -134,12 +128,9 @@ pub fn replace_key(
     ensures { EditsUnheld (editor_reply n result) n (λ T p. bounded T quarter (replaced p)) text.old recall.old side.old
         text.new recall.new side.new }
 {
-    let mode = n.mode;
-    let main = n.main;
-    let quoted = n.quoted;
     let end = 2 * QUARTER + n.pl;
-    let document = View::of(text, main.l, main.r);
-    let here = text_begins(document, main.l, &side[2 * QUARTER..end]);
+    let document = View::of(text, n.main.l, n.main.r);
+    let here = text_begins(document, n.main.l, &side[2 * QUARTER..end]);
     let m = replacement_taken(n);
     if !exchange_fits(here, text.len(), m) {
         return Err(Refusal::Full);
@@ -147,6 +138,6 @@ pub fn replace_key(
     if !exchange_readable(here, n, document, side) {
         return Err(Refusal::Line);
     }
-    hand_quotation(mode, quoted, 3 * QUARTER, side);
+    hand_quotation(n.mode, n.quoted, 3 * QUARTER, side);
     Ok(substitute(here, m, text, recall, side))
 }

@@ -56,19 +56,15 @@ pub fn editor_ok(q: usize, n: Lengths, text: &[u8], recall: &[u8], held: &[u8], 
     requires { sized q (stores text.now recall.now held.now side.now) ≡ true }
     ensures { result ≡ editor_ok q n (stores text.now recall.now held.now side.now) }
 {
-    let main = n.main;
-    let quoted = n.quoted;
-    let mode = n.mode;
-    let mark = n.mark;
-    let document = sound_document(LONGEST_LINE, text, main.l, main.r)
-        & sound_pair(recall, main.rl, main.rr);
-    let quotation = sound_gap(&side[..q], quoted.l, quoted.r)
-        & sound_pair(&side[q..2 * q], quoted.rl, quoted.rr);
+    let document = sound_document(LONGEST_LINE, text, n.main.l, n.main.r)
+        & sound_pair(recall, n.main.rl, n.main.rr);
+    let quotation = sound_gap(&side[..q], n.quoted.l, n.quoted.r)
+        & sound_pair(&side[q..2 * q], n.quoted.rl, n.quoted.rr);
     let others = sound_pair(&side[2 * q..3 * q], n.pl, 0)
         & sound_pair(&side[3 * q..4 * q], n.xl, n.xr);
-    let kept = sound_pair(held, n.hl, n.hr) & mark_within(main.l, main.r, mark);
-    let shape = (one_half(main) & one_half(quoted))
-        & (one_half(holding_sizes(n)) & no_quotation(mode, quoted));
+    let kept = sound_pair(held, n.hl, n.hr) & mark_within(n.main.l, n.main.r, n.mark);
+    let shape = (one_half(n.main) & one_half(n.quoted))
+        & (one_half(holding_sizes(n)) & no_quotation(n.mode, n.quoted));
     document & (quotation & (others & (kept & shape)))
 }
 
