@@ -56,13 +56,11 @@ pub fn session_test(
     requires { (q ≤ quarter) × (sized q (stores text.now recall.now held.now side.now) ≡ true) }
     ensures { result ≡ session_test q s (stores text.now recall.now held.now side.now) }
 {
-    let lengths = s.lengths;
-    let frame = s.frame;
-    if !editor_ok(q, lengths, text, recall, held, side) {
+    if !editor_ok(q, s.lengths, text, recall, held, side) {
         return None;
     }
-    let above = newlines_left(lengths, text);
-    if !is_visible(frame, cursor(above, lengths, text, side)) {
+    let above = newlines_left(s.lengths, text);
+    if !is_visible(s.frame, cursor(above, s.lengths, text, side)) {
         return None;
     }
     Some(above)
@@ -144,17 +142,19 @@ fn show(
     requires w_value { (rows_and_columns f.h f.w ≡ true) × (length screen.old ≡ f.h * f.w) }
     ensures { Shows (accepted_reply result) f (editor_done done) text.now side.now screen.old screen.new }
 {
-    let lengths = done.lengths;
-    let spot = cursor(above, lengths, text, side);
+    let spot = cursor(above, done.lengths, text, side);
     let g = follow(f, spot);
-    let rows = refresh(lengths, g, text, side, screen);
+    let rows = refresh(done.lengths, g, text, side, screen);
     Accepted {
         report: done.report,
         first: rows.first,
         last: rows.last,
         row: spot.row - g.r,
         column: spot.column - g.c,
-        session: Session { lengths, frame: g },
+        session: Session {
+            lengths: done.lengths,
+            frame: g,
+        },
     }
 }
 
@@ -171,17 +171,15 @@ pub fn press(
     ensures { KeyPromise s k (lent text.old recall.old held.old side.old screen.old)
         (called (key_reply s result) (lent text.new recall.new held.new side.new screen.new)) }
 {
-    let lengths = s.lengths;
-    let frame = s.frame;
-    let h = frame.h;
-    let w = frame.w;
+    let h = s.frame.h;
+    let w = s.frame.w;
     if !tabled_stores(h, w, text, recall, held, side, screen) {
         return Err(Refusal::Size);
     }
     let Some(above) = session_test(QUARTER, s, text, recall, held, side) else {
         return Err(Refusal::Session);
     };
-    let done = press_session(lengths, k, text, recall, held, side)?;
-    let below = newlines_now(k, above, lengths.main, done, text);
-    Ok(show(frame, below, done, text, side, screen))
+    let done = press_session(s.lengths, k, text, recall, held, side)?;
+    let below = newlines_now(k, above, s.lengths.main, done, text);
+    Ok(show(s.frame, below, done, text, side, screen))
 }

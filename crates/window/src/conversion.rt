@@ -40,17 +40,14 @@ pub fn convert(
     ensures { ConvertPromise s (stores text.now recall.now held.now old.now) side.old
         (conversion (convert_reply s result) side.new) }
 {
-    let lengths = s.lengths;
-    let quoted = lengths.quoted;
-    let frame = s.frame;
-    let h = frame.h;
-    let w = frame.w;
+    let h = s.frame.h;
+    let w = s.frame.w;
     if !convertible_stores(h, w, text, recall, held, old, side) {
         return Err(Refusal::Size);
     }
     let Some(_) = session_test(OLD_QUARTER, s, text, recall, held, old) else {
         return Err(Refusal::Session);
     };
-    lengthen(quoted.l, quoted.r, old, side);
+    lengthen(s.lengths.quoted.l, s.lengths.quoted.r, old, side);
     Ok(())
 }

@@ -15,7 +15,6 @@ use crate::sender::{Update, send};
 use crate::{Accepted, Frame, Sending, Session, Unopened};
 use editor::refusals::Refusal;
 use editor::{Lengths, Mode, Sizes};
-use gap::numbers::bit_of;
 
 // The session record in document order: lengths of the document left and right of its cursor, of the quotation, of both halves of the
 // document's recall text and of the quotation's, of both halves of the replacement, of the pattern; mode; offsets; rows and columns; both halves
@@ -90,37 +89,39 @@ fn mark_from(m: usize) -> Option<usize>
     Some(m)
 }
 
-pub fn session_from(n: Record) -> Session
-    ensures { result ≡ session_from n }
-{
-    Session {
-        lengths: Lengths {
-            main: Sizes {
-                l: n.l,
-                r: n.r,
-                rl: n.rl,
-                rr: n.rr,
+impl From<Record> for Session {
+    ghost from_gives = { λ n s. s ≡ session_from n };
+
+    fn from(n: Record) -> Session {
+        Session {
+            lengths: Lengths {
+                main: Sizes {
+                    l: n.l,
+                    r: n.r,
+                    rl: n.rl,
+                    rr: n.rr,
+                },
+                quoted: Sizes {
+                    l: n.ql,
+                    r: n.qr,
+                    rl: n.qrl,
+                    rr: n.qrr,
+                },
+                xl: n.xl,
+                xr: n.xr,
+                pl: n.pl,
+                mode: mode_of(n.mode),
+                hl: n.hl,
+                hr: n.hr,
+                mark: mark_from(n.mark),
             },
-            quoted: Sizes {
-                l: n.ql,
-                r: n.qr,
-                rl: n.qrl,
-                rr: n.qrr,
+            frame: Frame {
+                r: n.top,
+                c: n.left,
+                h: n.rows,
+                w: n.columns,
             },
-            xl: n.xl,
-            xr: n.xr,
-            pl: n.pl,
-            mode: mode_of(n.mode),
-            hl: n.hl,
-            hr: n.hr,
-            mark: mark_from(n.mark),
-        },
-        frame: Frame {
-            r: n.top,
-            c: n.left,
-            h: n.rows,
-            w: n.columns,
-        },
+        }
     }
 }
 
@@ -144,35 +145,35 @@ fn mark_number(mark: Option<usize>) -> usize
     }
 }
 
-fn record_from(s: Session) -> Record
-    ensures { result ≡ record_from s }
-{
-    let lengths = s.lengths;
-    let main = lengths.main;
-    let quoted = lengths.quoted;
-    let mode = lengths.mode;
-    let mark = lengths.mark;
-    let frame = s.frame;
-    Record {
-        l: main.l,
-        r: main.r,
-        ql: quoted.l,
-        qr: quoted.r,
-        rl: main.rl,
-        rr: main.rr,
-        qrl: quoted.rl,
-        qrr: quoted.rr,
-        xl: lengths.xl,
-        xr: lengths.xr,
-        pl: lengths.pl,
-        mode: mode_number(mode),
-        top: frame.r,
-        left: frame.c,
-        rows: frame.h,
-        columns: frame.w,
-        hl: lengths.hl,
-        hr: lengths.hr,
-        mark: mark_number(mark),
+impl From<Session> for Record {
+    ghost from_gives = { λ s n. n ≡ record_from s };
+
+    fn from(s: Session) -> Record {
+        let lengths = s.lengths;
+        let main = lengths.main;
+        let quoted = lengths.quoted;
+        let frame = s.frame;
+        Record {
+            l: main.l,
+            r: main.r,
+            ql: quoted.l,
+            qr: quoted.r,
+            rl: main.rl,
+            rr: main.rr,
+            qrl: quoted.rl,
+            qrr: quoted.rr,
+            xl: lengths.xl,
+            xr: lengths.xr,
+            pl: lengths.pl,
+            mode: mode_number(lengths.mode),
+            top: frame.r,
+            left: frame.c,
+            rows: frame.h,
+            columns: frame.w,
+            hl: lengths.hl,
+            hr: lengths.hr,
+            mark: mark_number(lengths.mark),
+        }
     }
 }
 
@@ -180,21 +181,19 @@ fn record_from(s: Session) -> Record
 pub fn in_numbers(accepted: Accepted) -> HostReply
     ensures { result ≡ numbers_of (accepted_reply accepted) }
 {
-    let report = accepted.report;
-    let session = accepted.session;
     HostReply {
         said: Said {
             code: 0,
             place: 0,
-            steps: report.steps,
-            lines: report.lines,
-            bell: bit_of(report.bell),
+            steps: accepted.report.steps,
+            lines: accepted.report.lines,
+            bell: usize::from(accepted.report.bell),
             first: accepted.first,
             last: accepted.last,
             row: accepted.row,
             column: accepted.column,
         },
-        back: record_from(session),
+        back: Record::from(accepted.session),
     }
 }
 
@@ -310,7 +309,7 @@ pub fn chidukwore_key(
         return refused(Refusal::Size, n);
     }
     let k = key_from(kind, a, b, c);
-    match press(session_from(n), k, text, recall, held, side, screen) {
+    match press(Session::from(n), k, text, recall, held, side, screen) {
         Ok(accepted) => in_numbers(accepted),
         Err(why) => refused(why, n),
     }
@@ -331,10 +330,10 @@ pub fn chidukwore_paint(
         (outcome_of result buffer.new) }
 {
     let update = Update {
-        first: first,
-        last: last,
-        row: row,
-        column: column,
+        first,
+        last,
+        row,
+        column,
     };
     send(rows, columns, update, screen, buffer)
 }

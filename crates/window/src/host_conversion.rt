@@ -5,8 +5,9 @@ ghost use Rattle.editor.specs.Wording.Promise.{stores};
 ghost use Rattle.window.specs.Rules.HostConversion.{handed_back};
 ghost use Rattle.window.specs.Wording.Conversion.{HostConvertPromise};
 
+use crate::Session;
 use crate::conversion::{convert, convertible_stores};
-use crate::host::{HostReply, Record, bare, refused, session_from};
+use crate::host::{HostReply, Record, bare, refused};
 use editor::refusals::Refusal;
 
 // Converts an old session: its stores are only read, and the new side store is written.
@@ -30,7 +31,7 @@ pub fn chidukwore_convert(
         }
         return refused(Refusal::Size, n);
     }
-    match convert(session_from(n), text, recall, held, old, side) {
+    match convert(Session::from(n), text, recall, held, old, side) {
         Ok(()) => bare(0, 0, n),
         Err(why) => refused(why, n),
     }

@@ -17,10 +17,10 @@ returns-then-mode-gt1 c =
 pub returns-in-Ok : goal.returns-in-Ok
 returns-in-Ok c =
     keyed-given _ _ c.in_numbers.ensures c.args.n _ _ _ _ _
-    c.if-mode-gt1.false c.session_from.ensures c.key_from-k.ensures c.in-Ok.ensures
+    c.if-mode-gt1.false c.from.ensures c.key_from-k.ensures c.in-Ok.ensures
 
 pub returns-in-Err : goal.returns-in-Err
 returns-in-Err c =
-    let back = refused-numbers c.args.n _ c.if-mode-gt1.false c.session_from.ensures c.refused-in-Err.ensures in
+    let back = refused-numbers c.args.n _ c.if-mode-gt1.false c.from.ensures c.refused-in-Err.ensures in
     keyed-given _ _ back c.args.n _ _ _ _ _
-    c.if-mode-gt1.false c.session_from.ensures c.key_from-k.ensures c.in-Err.ensures
+    c.if-mode-gt1.false c.from.ensures c.key_from-k.ensures c.in-Err.ensures

@@ -17,10 +17,10 @@ returns-then-mode-gt1 c =
 
 pub returns-in-Ok : goal.returns-in-Ok
 returns-in-Ok c =
-    let back = refused-numbers c.args.n _ c.if-mode-gt1.false c.session_from.ensures c.bare.ensures in
-    converted-given back c.args.n _ _ c.if-mode-gt1.false c.session_from.ensures c.in-Ok.ensures
+    let back = refused-numbers c.args.n _ c.if-mode-gt1.false c.from.ensures c.bare.ensures in
+    converted-given back c.args.n _ _ c.if-mode-gt1.false c.from.ensures c.in-Ok.ensures
 
 pub returns-in-Err : goal.returns-in-Err
 returns-in-Err c =
-    let back = refused-numbers c.args.n _ c.if-mode-gt1.false c.session_from.ensures c.refused-in-Err.ensures in
-    converted-given back c.args.n _ _ c.if-mode-gt1.false c.session_from.ensures c.in-Err.ensures
+    let back = refused-numbers c.args.n _ c.if-mode-gt1.false c.from.ensures c.refused-in-Err.ensures in
+    converted-given back c.args.n _ _ c.if-mode-gt1.false c.from.ensures c.in-Err.ensures
