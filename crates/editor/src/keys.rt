@@ -49,6 +49,7 @@ fn is_main(mode: Mode) -> bool
     matches!(mode, Mode::Main)
 }
 
+#[tactic(auto, unfolding(crate::specs::Rules::Keys::sound_key))]
 pub fn sound_key(mode: Mode, k: Key) -> bool
     ensures { result ≡ sound_key mode k }
 {

@@ -111,6 +111,7 @@ fn going(way: Direction, n: usize) -> Exchange
 }
 
 // REPLACE with the bell changes nothing.
+#[tactic(auto, unfolding(crate::specs::Wording::Marks::exchange_of))]
 fn replacing(report: Report, m: Lengths) -> Exchange
     requires { m.xl + m.xr < 2 ^ 64 }
     ensures { result ≡ exchange_of Replace m report m }
@@ -126,6 +127,7 @@ fn replacing(report: Report, m: Lengths) -> Exchange
 }
 
 // What a key changes of the document, once it is done: n are the lengths before it, m those behind it.
+#[tactic(auto, unfolding(crate::specs::Wording::Marks::exchange_of))]
 fn exchange_of(k: Key, n: Lengths, report: Report, m: Lengths) -> Exchange
     requires rr_bound { (n.main.rl + n.main.rr < 2 ^ 64) × (n.hl + n.hr < 2 ^ 64) }
     requires xr_bound { m.xl + m.xr < 2 ^ 64 }

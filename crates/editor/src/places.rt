@@ -70,6 +70,7 @@ fn right_of(t: &[u8], p: usize) -> Neighbour
 
 // Place p of a text is a word place: one decision for each pair. The right side is asked for where the left one is known, so that inside a
 // word, where no place is one, a single byte is read.
+#[tactic(auto, using(crate::proofs::Laws::PlaceScans::word_known))]
 pub fn word_at(t: &[u8], p: usize) -> bool
     requires { p ≤ length t.now }
     ensures { result ≡ word (record { l = take p t.now; r = drop p t.now }) }
@@ -103,6 +104,7 @@ pub fn word_at(t: &[u8], p: usize) -> bool
 }
 
 // Place p of a text is such a place, for the direction.
+#[tactic(auto, unfolding(crate::specs::Rules::Places::is_at))]
 pub fn stands(place: Place, way: Direction, t: &[u8], p: usize) -> bool
     requires { p ≤ length t.now }
     ensures { result ≡ is_at place way (record { l = take p t.now; r = drop p t.now }) }

@@ -79,10 +79,10 @@ pub byte-other : {b : ℕ} → (b ≡ 32 → ⊥) → (b ≡ 10 → ⊥) → Oth
 byte-other no-space no-newline = sym (rw (ne_eqb _ _ no-space, ne_eqb _ _ no-newline))
 
 -- The decision for a pair of neighbours that the code has found out.
-pub word-known : (d : Doc) {left right known-left known-right : Neighbour} {ok : Bool} → left ≡ left_of d → right ≡ right_of d
+pub word_known : (d : Doc) {left right known-left known-right : Neighbour} {ok : Bool} → left ≡ left_of d → right ≡ right_of d
     → left ≡ known-left → right ≡ known-right → ok ≡ word_between known-left known-right → ok ≡ word d
 unfolding word
-word-known d left right known-left known-right e = e ∙ ap₂ word_between (sym known-left ∙ left) (sym known-right ∙ right)
+word_known d left right known-left known-right e = e ∙ ap₂ word_between (sym known-left ∙ left) (sym known-right ∙ right)
 
 -- A document is at its end where there is room for less than one move; place p of a text has room for p moves to the left.
 empty-short : (s : List ℕ) → is_empty s ≡ ltb (length s) 1
