@@ -1,3 +1,4 @@
 -- How the contracts of this layer's functions speak. No rule stands here.
 pub mod Written
 pub mod LinesAfter
+pub mod Closures

@@ -4,4 +4,4 @@ use Rattle.gap.proofs.runs.clear.Goals as goal
 
 pub returns : goal.returns
 unfolding zeros
-returns c = c.fill.ensures
+returns c = c.fill.ensures.after (λ y h. h)
