@@ -1,19 +1,16 @@
 -- Laws of comparing runs of bytes, and of what a text begins with.
 use mathlib.Core.Path.{◌≡◌, refl, sym, ap, ◌∙◌}
-use mathlib.Core.Logic.{⊎_elim}
-use mathlib.Core.Bool.{Bool, true, false, ◌&&◌, and-false, and-true, and_assoc}
+use mathlib.Core.Bool.{Bool, true, false, ◌&&◌, and-false, and_assoc}
 use mathlib.Core.List.{List, [], ◌∷◌, ◌++◌}
-use Prim.Native.Nat.{ℕ, ◌+◌, ◌-◌, ◌≤◌, ◌<◌}
-use native.Mathlib.Numerals.{add-one}
+use Prim.Native.Nat.{ℕ, ◌+◌, ◌≤◌, ◌<◌}
 use native.Mathlib.Omega.{arith}
 use lib.Dec.{eqb}
 use lib.Pointwise.{pointwise}
-use lib.ListN.{length, take, drop, get_or, length-append, length-drop, drop_of_length-le, get_or-append}
-use lib.Seq.{drop-cons, take-append-le, get_or-drop}
+use lib.ListN.{length, take, drop, get_or, length-append, get_or-append}
+use lib.Seq.{take-append-le, get_or-drop}
 use Rattle.std.specs.List.{starts_with}
 use Rattle.gap.specs.Rules.Sequence.{same_bytes, begins, part}
-use Rattle.gap.proofs.Laws.Tests.{decided}
-use Rattle.gap.proofs.Laws.Sequence.{same-equal, begins-split, length_part}
+use Rattle.gap.proofs.Laws.Sequence.{begins-split, length_part}
 use Rattle.gap.proofs.Laws.Runs.{tail_of, tail-lent}
 use Rattle.gap.proofs.Laws.Patches.{part-both}
 

@@ -1,18 +1,14 @@
 -- Laws of a run that goes from one place to another: it slides there block by block, and then what it left behind is cleared.
-use mathlib.Core.Path.{◌≡◌, refl, sym, ap, ◌∙◌}
-use mathlib.Core.Logic.{⊎_elim}
+use mathlib.Core.Path.{◌≡◌, sym, ap, ◌∙◌}
 use mathlib.Core.List.{List, ◌++◌, append_assoc}
 use Prim.Native.Nat.{ℕ, ◌+◌, ◌-◌, ◌≤◌, ◌<◌, min}
 use native.Mathlib.Omega.{arith}
-use lib.Dec.{ltb}
 use lib.Seq.{paste, drop-drop}
 use lib.ListN.{length, take, drop}
-use borrow.Author.Tests.{ltb-true, ltb-false}
 use Rattle.gap.specs.Rules.Sequence.{part, patch, zeros}
-use Rattle.gap.proofs.Laws.Tests.{decided}
 use Rattle.gap.proofs.Laws.Sequence.{length_part, length-zeros}
-use Rattle.gap.proofs.Laws.Runs.{length-patch, patch-none, zeros-both}
-use Rattle.gap.proofs.Laws.Patches.{part-both, part-before, part-behind, apart, patch-behind, patch-before, covered}
+use Rattle.gap.proofs.Laws.Runs.{length-patch, zeros-both}
+use Rattle.gap.proofs.Laws.Patches.{apart, patch-behind, patch-before, covered}
 
 -- A run of k bytes goes from one place to another, and zeros take its old place.
 abbrev pub carried : ℕ → ℕ → ℕ → List ℕ → List ℕ

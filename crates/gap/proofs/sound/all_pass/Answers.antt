@@ -1,5 +1,5 @@
 -- `sound::all_pass` meets its contract: the flag tells whether the bytes passed pass the test, and what is left decides.
-use Rattle.gap.proofs.Laws.Scans.{tested-start, tested-more, tested-all}
+use Rattle.gap.proofs.Laws.Scans.{tested-more, tested-all}
 use Rattle.gap.proofs.sound.all_pass.Goals as goal
 
 pub loop-b-preserved : goal.loop-b-preserved
