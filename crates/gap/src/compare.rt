@@ -3,6 +3,7 @@ ghost use Rattle.std.specs.Prelude.{◌≡◌, ◌≤◌, length, drop};
 ghost use Rattle.gap.specs.Rules.Sequence.{same_bytes, begins};
 
 // Two runs of one length are the same.
+#[tactic(auto, using(crate::proofs::Laws::Compared::pointwise_same))]
 pub fn same_run(a: &[u8], b: &[u8]) -> bool
     requires { length a.now ≡ length b.now }
     ensures { result ≡ same_bytes a.now b.now }
@@ -11,6 +12,7 @@ pub fn same_run(a: &[u8], b: &[u8]) -> bool
 }
 
 // Both are the same, byte for byte.
+#[tactic(auto, using(crate::proofs::Laws::Compared::pointwise_same))]
 pub fn same_bytes(a: &[u8], b: &[u8]) -> bool
     ensures { result ≡ same_bytes a.now b.now }
 {
@@ -26,6 +28,7 @@ pub fn run_begins(t: &[u8], at: usize, pattern: &[u8]) -> bool
 }
 
 // The word stands at the front.
+#[tactic(auto, using(crate::proofs::Laws::Compared::starts_begins))]
 pub fn begins_with(word: &[u8], s: &[u8]) -> bool
     ensures { result ≡ begins word.now s.now }
 {

@@ -3,6 +3,7 @@ ghost use Rattle.std.specs.Prelude.{◌≡◌, ◌++◌, ◌+◌, ◌-◌, ◌�
 ghost use Rattle.gap.specs.Rules.Sequence.{part, patch, zeros};
 
 // Every byte becomes 0.
+#[tactic(auto, unfolding(crate::specs::Rules::Sequence::zeros))]
 pub fn clear(s: &mut [u8])
     ensures { s.new ≡ zeros (length s.old) }
 {
@@ -35,6 +36,7 @@ pub fn fill_at(s: &mut [u8], at: usize, d: usize, b: u8)
 }
 
 // The d bytes from `at` on become 0: vacated bytes are cleared at once.
+#[tactic(auto, unfolding(crate::specs::Rules::Sequence::zeros))]
 pub fn vacate(s: &mut [u8], at: usize, d: usize)
     requires { at + d ≤ length s.old }
     ensures { s.new ≡ patch at (zeros d) s.old }

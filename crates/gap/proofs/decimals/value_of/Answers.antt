@@ -1,10 +1,7 @@
 -- `value_of` gives what the digits are worth: before each turn, n is the number that the digits passed write.
 use native.Mathlib.Omega.{arith}
-use Rattle.gap.proofs.Laws.Decimals.{valued-start, valued-digit, valued-more, valued_fits, valued-all}
+use Rattle.gap.proofs.Laws.Decimals.{valued-digit, valued-more, valued_fits, valued-all}
 use Rattle.gap.proofs.decimals.value_of.Goals as goal
-
-pub loop-b-init : goal.loop-b-init
-loop-b-init c = valued-start c.requires.0 c.requires.1
 
 pub overflow_mul-n : goal.overflow_mul-n
 overflow_mul-n c = omega (arith, valued_fits c.loop-b.invariant c.loop-b-test.true)

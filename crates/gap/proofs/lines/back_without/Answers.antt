@@ -12,9 +12,6 @@ parted rest block same parts = ap₂ ◌++◌ (sym same) parts ∙ sym (append_a
 pub loop-block-init : goal.loop-block-init
 loop-block-init c = rw c.into_iter-block-iterator.ensures.into_iter_gives (backward_start c.rchunks_exact-block-items.ensures.parts)
 
-pub returns-then-has_newline : goal.returns-then-has_newline
-returns-then-has_newline c = c.loop-block.invariant.unbroken
-
 pub overflow_sub-i : goal.overflow_sub-i
 overflow_sub-i c =
     backward_fits c.in-Some.block.now _ c.loop-block.invariant
@@ -24,6 +21,3 @@ pub loop-block-preserved : goal.loop-block-preserved
 loop-block-preserved c =
     backward_more _ _ c.loop-block.invariant (parted _ _ c.in-Some.ensures.steps.1 c.in-Some.ensures.steps.2.0)
     c.has_newline.ensures c.if-has_newline.false
-
-pub returns : goal.returns
-returns c = c.loop-block.invariant.unbroken

@@ -2,13 +2,8 @@
 use mathlib.Core.Path.{◌∙◌}
 use native.Mathlib.Omega.{arith}
 use Rattle.std.specs.Slice.Iter.{chunks_rest}
-use Rattle.gap.proofs.Laws.LineScans.{counted_start, counted-fit, counted-block, counted-all}
+use Rattle.gap.proofs.Laws.LineScans.{counted-fit, counted-block, counted-all}
 use Rattle.gap.proofs.lines.count_newlines.Goals as goal
-
-pub loop-block-init : goal.loop-block-init
-loop-block-init c =
-    rw (c.into_iter-block-iterator.ensures.into_iter_gives, c.chunks-block-items.ensures.rest)
-    (record { size = c.chunks-block-items.ensures.size; counted = counted_start _ })
 
 pub overflow_add-count : goal.overflow_add-count
 overflow_add-count c =

@@ -1,11 +1,8 @@
 -- `lines::newlines_short` meets its contract: the count is that of the bytes passed, and there are no more newlines than bytes.
 use native.Mathlib.Omega.{arith}
 use lib.ListN.{length-drop}
-use Rattle.gap.proofs.Laws.LineScans.{counted_start, counted-fit, counted-byte, counted-all}
+use Rattle.gap.proofs.Laws.LineScans.{counted-fit, counted-byte, counted-all}
 use Rattle.gap.proofs.lines.newlines_short.Goals as goal
-
-pub loop-b-init : goal.loop-b-init
-loop-b-init c = counted_start _
 
 pub overflow_add-count : goal.overflow_add-count
 overflow_add-count c = omega (arith, c.from-count.ensures, counted-fit (counted-byte c.loop-b.invariant c.loop-b-test.true))
