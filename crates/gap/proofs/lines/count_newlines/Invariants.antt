@@ -5,4 +5,4 @@ use Rattle.gap.proofs.Laws.LineScans.{Counted}
 use Rattle.gap.proofs.lines.count_newlines.Given as goal
 
 abbrev pub invariant-loop-block : goal.invariant-loop-block
-invariant-loop-block l = record { size : chunks_size l.block-iterator ≡ 192; counted : Counted l.s l.count (chunks_rest l.block-iterator) }
+invariant-loop-block l = record { size : chunks_size l.block-iterator ≡ chunks_size l.initial.block-iterator; counted : Counted l.s l.count (chunks_rest l.block-iterator) }
