@@ -5,7 +5,6 @@ ghost use Rattle.gap.specs.Rules.Fields.{next_at, line_number, field_of, header_
 ghost use Rattle.gap.specs.Wording.Written.{Wrote};
 
 use crate::Number;
-use crate::compare::begins_with;
 use crate::decimals::{number_of, put_decimal};
 use crate::lines::{count_newlines, end_at};
 use crate::writers::put;
@@ -35,11 +34,10 @@ pub fn field_of(word: &[u8], most: usize, line: &[u8]) -> Number
     requires { most ≤ word_digits }
     ensures { result ≡ field_of word.now most line.now }
 {
-    if !begins_with(word, line) {
-        return Number::Unreadable;
+    match line.strip_prefix(word) {
+        Some(rest) => number_of(most, rest),
+        None => Number::Unreadable,
     }
-    let n = word.len();
-    number_of(most, &line[n..])
 }
 
 // The number of a line that must end in a newline.

@@ -1,5 +1,6 @@
 -- Laws of comparing runs of bytes, and of what a text begins with.
-use mathlib.Core.Path.{◌≡◌, refl, sym, ap, ◌∙◌}
+use mathlib.Core.Path.{◌≡◌, refl, sym, ap, ap₂, ◌∙◌}
+use mathlib.Core.Logic.{⊎_elim}
 use mathlib.Core.Bool.{Bool, true, false, ◌&&◌, and-false, and_assoc}
 use mathlib.Core.List.{List, [], ◌∷◌, ◌++◌}
 use Prim.Native.Nat.{ℕ, ◌+◌, ◌≤◌, ◌<◌}
@@ -8,8 +9,10 @@ use lib.Dec.{eqb}
 use lib.Pointwise.{pointwise}
 use lib.ListN.{length, take, drop, get_or, length-append, get_or-append}
 use lib.Seq.{take-append-le, get_or-drop}
+use borrow.Author.Tests.{eqb-true, eq-eqb, ne_eqb}
 use Rattle.std.specs.List.{starts_with}
 use Rattle.gap.specs.Rules.Sequence.{same_bytes, begins, part}
+use Rattle.gap.proofs.Laws.Tests.{decided, clash}
 use Rattle.gap.proofs.Laws.Sequence.{begins-split, length_part}
 use Rattle.gap.proofs.Laws.Runs.{tail_of, tail-lent}
 use Rattle.gap.proofs.Laws.Patches.{part-both}
@@ -21,6 +24,20 @@ pointwise_same [] [] = refl
 pointwise_same [] (y ∷ b) = refl
 pointwise_same (x ∷ a) [] = refl
 pointwise_same (x ∷ a) (y ∷ b) = ap (λ rest. eqb x y && rest) (pointwise_same a b)
+
+-- It does not matter which of the two comes first.
+byte-swapped : (a b : ℕ) → eqb a b ≡ eqb b a
+byte-swapped a b =
+    ⊎_elim (λ e. e ∙ sym (eq-eqb b a (sym (eqb-true a b e))))
+    (λ e. e ∙ sym (ne_eqb b a (λ h. clash (eq-eqb a b (sym h)) e)))
+    (decided (eqb a b))
+
+pub same_swapped : (a b : List ℕ) → same_bytes a b ≡ same_bytes b a
+unfolding same_bytes
+same_swapped [] [] = refl
+same_swapped [] (y ∷ b) = refl
+same_swapped (x ∷ a) [] = refl
+same_swapped (x ∷ a) (y ∷ b) = ap₂ ◌&&◌ (byte-swapped x y) (same_swapped a b)
 
 -- Runs put together are the same where their parts are, and so are parts side by side.
 pub same-append : (a s b t : List ℕ) → length a ≡ length s → same_bytes (a ++ b) (s ++ t) ≡ (same_bytes a s && same_bytes b t)

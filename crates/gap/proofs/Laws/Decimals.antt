@@ -143,9 +143,6 @@ pub record Valued (s : List ℕ) (n i : ℕ) : Type 0 where
   pub within : i ≤ length s
   pub rest : value s ≡ value_after n (drop i s)
 
-pub valued-start : {s : List ℕ} → length s ≤ word_digits → every digit s ≡ true → Valued s 0 0
-valued-start short p = record { digits = p; short = short; within = omega arith; rest = refl }
-
 module _ {s : List ℕ} {n i : ℕ} (so_far : Valued s n i) where
   pub valued-all : length s ≤ i → n ≡ value s
   unfolding value_after

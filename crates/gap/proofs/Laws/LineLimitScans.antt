@@ -76,11 +76,6 @@ module _ (limit n : ℕ) (s : List ℕ) where
   pub fitting-over : limit < n → false ≡ lines_fit_after limit n s
   fitting-over over = refuted _ (λ fits. omega (arith, leb-true n limit (carried-fits limit n s fits)))
 
-  pub fitting-start : n ≤ limit → Fitting limit n s (limit - n) s
-  fitting-start fits =
-      let before : n ≡ limit - (limit - n) = omega arith in
-      record { within = omega arith; spare = omega arith; rest = ap (λ m. lines_fit_after limit m s) before }
-
   module _ {room : ℕ} {left : List ℕ} (so_far : Fitting limit n s room left) where
     pub fitting-all : length left ≤ room → true ≡ lines_fit_after limit n s
     fitting-all short = sym (so_far.rest ∙ after-short limit (limit - room) left (omega (arith, so_far.spare)))

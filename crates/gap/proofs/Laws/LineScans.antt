@@ -25,9 +25,6 @@ as_number : (is : Bool) → bool_byte is ≡ cond is 1 0
 as_number true = refl
 as_number false = refl
 
-pub counted_start : (s : List ℕ) → Counted s 0 s
-counted_start s = record { rest = omega arith }
-
 module _ {s : List ℕ} {count : ℕ} where
   pub counted-fit : {left : List ℕ} → Counted s count left → count ≤ length s
   counted-fit so_far = omega (arith, so_far.rest, newlines-fit s)
@@ -126,9 +123,6 @@ module _ {s : List ℕ} where
   -- The next block from the front, or from the back, has none.
   module _ (block rest : List ℕ) {left : List ℕ} {i : ℕ} where
     module _ {a : ℕ} (so_far : Onward s a i left) (parts : left ≡ block ++ rest) where
-      pub onward_fits : i + length block ≤ length s
-      onward_fits = omega (arith, so_far.unbroken.high, length-drop i s, ap length (so_far.behind ∙ parts), length-append block rest)
-
       pub onward_more : {found : Bool} → found ≡ not (every within-line block) → found ≡ false → Onward s a (i + length block) rest
       onward_more tested none = record {
         unbroken =

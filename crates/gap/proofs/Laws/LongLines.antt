@@ -20,7 +20,7 @@ use Rattle.gap.specs.Wording.LinesAfter.{lines_fit_after}
 use Rattle.gap.proofs.Laws.Tests.{decided, and_both, or_right}
 use Rattle.gap.proofs.Laws.Sequence.{every-at, length_part}
 use Rattle.gap.proofs.Laws.Nearest.{none-nowhere, nowhere-none}
-use Rattle.gap.proofs.Laws.Scans.{Scan, scan-start, scan-found, scan-none}
+use Rattle.gap.proofs.Laws.Scans.{Scan, scan-found, scan-none}
 use Rattle.gap.proofs.Laws.RowScans.{row-none, row_last}
 use Rattle.gap.proofs.Laws.LinePlaces.{line-starts, ends-unbroken, ends-stop}
 use Rattle.gap.proofs.Laws.LineLimits.{after_nothing, after_none, after-byte, fit_line, fit-drop}
@@ -100,9 +100,6 @@ module _ (limit : ℕ) where
     pub begins : begins_line s i ≡ true
 
   module _ (s : List ℕ) where
-    pub lines_start : LinesPassed s 0
-    lines_start = record { scan = scan-start _ _ _; begins = refl }
-
     module _ {i : ℕ} (so_far : LinesPassed s i) where
       pub lines_none : length s ≤ i → Nowhere ≡ long_line limit s
       unfolding long_line

@@ -1,22 +1,15 @@
--- `fields::field_of` meets its contract: a line that begins with the word is as long, and what stands behind the word is lent.
+-- `fields::field_of` meets its contract: what stands behind the word is read, if the line begins with the word.
 use Rattle.gap.specs.Rules.Decimal.{number_of}
 use Rattle.gap.specs.declared.Number.TheVariants.{Unreadable}
 use Rattle.gap.specs.Rules.Fields.{field_of}
-use Rattle.gap.proofs.Laws.Fields.{word_fits, word_none, word_read}
-use mathlib.Core.Path.{ap}
-use mathlib.Core.Bool.{not}
+use Rattle.gap.proofs.Laws.Fields.{prefix-none, prefix_read}
 use Rattle.gap.proofs.fields.field_of.Goals as goal
 
-pub returns-then-not-begins_with : goal.returns-then-not-begins_with
+pub returns-in-Some : goal.returns-in-Some
 unfolding field_of
-returns-then-not-begins_with c = word_none _ _ c.begins_with.ensures (number_of _) Unreadable (ap not c.if-not-begins_with.true)
+returns-in-Some c =
+    prefix_read c.args.word.now c.args.line.now (number_of _) Unreadable c.in-Some.ensures.cases.0 c.in-Some.ensures.cases.1 c.number_of.ensures
 
-pub slice_bounds-number_of-count : goal.slice_bounds-number_of-count
-slice_bounds-number_of-count c = word_fits _ _ c.begins_with.ensures (ap not c.if-not-begins_with.false)
-
-pub slice_bounds-number_of-start : goal.slice_bounds-number_of-start
-slice_bounds-number_of-start c = word_fits _ _ c.begins_with.ensures (ap not c.if-not-begins_with.false)
-
-pub returns : goal.returns
+pub returns-in-None : goal.returns-in-None
 unfolding field_of
-returns c = word_read _ _ c.begins_with.ensures (number_of _) Unreadable (ap not c.if-not-begins_with.false) c.number_of.ensures
+returns-in-None c = prefix-none c.args.word.now c.args.line.now (number_of _) Unreadable c.in-None.ensures.cases
