@@ -24,7 +24,7 @@ fn is_number(most: usize, s: &[u8]) -> bool
     if most < s.len() {
         return false;
     }
-    all_digits(s) & ((s.len() == 1) | (s[0] != 48))
+    all_digits(s) & ((s.len() == 1) | (s[0] != b'0'))
 }
 
 // What the digits are worth: there are no more than a machine word has room for, so that no sum can wrap.

@@ -50,7 +50,8 @@ fn back_without(s: &[u8]) -> usize
     i
 }
 
-// A place up to which there is no newline from place `at` on: the same in the other direction.
+// A place up to which there is no newline from place `at` on: the same in the other direction. One function over both would have to be handed
+// how the place goes on from a block.
 fn front_without(s: &[u8], at: usize) -> usize
     requires { at ≤ length s.now }
     ensures { Unbroken s.now at result }

@@ -11,14 +11,14 @@ use crate::Search;
 fn is_printable(b: u8) -> bool
     ensures { result ≡ printable b }
 {
-    (32 <= b) & (b <= 126)
+    (b' ' <= b) & (b <= b'~')
 }
 
 // A byte that a text may have.
 pub fn is_allowed(b: u8) -> bool
     ensures { result ≡ allowed b }
 {
-    (b == 10) | is_printable(b)
+    (b == b'\n') | is_printable(b)
 }
 
 // Every byte passes the test. The loop carries a flag and has neither branch nor exit, so that it is vectorised.

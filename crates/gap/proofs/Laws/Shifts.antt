@@ -1,4 +1,4 @@
--- Laws of a run that goes from one place to another: it slides there block by block, and then what it left behind is cleared.
+-- Laws of a run that goes from one place to another: it is copied there, and then what it left behind is cleared.
 use mathlib.Core.Path.{◌≡◌, sym, ap, ◌∙◌}
 use mathlib.Core.List.{List, ◌++◌, append_assoc}
 use Prim.Native.Nat.{ℕ, ◌+◌, ◌-◌, ◌≤◌, ◌<◌, min}
