@@ -3,7 +3,7 @@ ghost use Rattle.std.specs.Prelude.{◌≡◌, ℕ, Bool, true, false, not, ◌&
 ghost use Rattle.gap.specs.Rules.Sequence.{every, part};
 ghost use Rattle.gap.specs.Rules.Nearest.{nearest};
 ghost use Rattle.gap.specs.Rules.Layout.{printable, allowed, free, sound_gap, sound_pair};
-ghost use Rattle.gap.specs.Wording.Closures.{Tests};
+ghost use Rattle.gap.specs.Wording.Closures.{Says};
 
 use crate::Search;
 
@@ -24,7 +24,7 @@ pub fn is_allowed(b: u8) -> bool
 // Every byte passes the test. The loop carries a flag and has neither branch nor exit, so that it is vectorised.
 pub(crate) fn all_pass<F: Fn(u8) -> bool>(s: &[u8], test: F) -> bool
     requires { F.IsAlwaysCallable test }
-    ensures { (passes : ℕ → Bool) → Tests (F.post test) passes → result ≡ every passes s.now }
+    ensures { (passes : ℕ → Bool) → Says (F.post test) passes → result ≡ every passes s.now }
 {
     let mut ok = true;
     for b in s {
@@ -36,7 +36,7 @@ pub(crate) fn all_pass<F: Fn(u8) -> bool>(s: &[u8], test: F) -> bool
 // The first byte that fails the test. Byte by byte only where there is one.
 fn first_failing<F: Fn(u8) -> bool>(s: &[u8], test: F) -> Search
     requires { F.IsAlwaysCallable test }
-    ensures { (passes : ℕ → Bool) → Tests (F.post test) passes → result ≡ nearest (λ i. not (passes (get_or s.now i 0))) (length s.now) 0 }
+    ensures { (passes : ℕ → Bool) → Says (F.post test) passes → result ≡ nearest (λ i. not (passes (get_or s.now i 0))) (length s.now) 0 }
 {
     if all_pass(s, &test) {
         return Search::Nowhere;

@@ -2,5 +2,5 @@
 use Rattle.std.specs.Prelude.{◌≡◌, ℕ, Bool}
 
 -- Whatever a call answers is what the test says of the byte.
-abbrev pub Tests : (ℕ → Bool → Type 0) → (ℕ → Bool) → Type 0
-Tests answers passes = (b : ℕ) (answer : Bool) → answers b answer → answer ≡ passes b
+abbrev pub Says : (ℕ → Bool → Type 0) → (ℕ → Bool) → Type 0
+Says answers passes = (b : ℕ) (answer : Bool) → answers b answer → answer ≡ passes b
