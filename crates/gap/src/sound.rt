@@ -107,7 +107,7 @@ pub fn sound_gap(s: &[u8], l: usize, r: usize) -> bool
     false
 }
 
-// The store is a sound pair store for these lengths.
+// The store is a sound pair store for these lengths: the same test, with all free bytes behind the texts.
 pub fn sound_pair(s: &[u8], l: usize, r: usize) -> bool
     ensures { result ≡ sound_pair l r s.now }
 {

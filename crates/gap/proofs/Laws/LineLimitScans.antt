@@ -9,15 +9,12 @@ use lib.Dec.{eqb, ltb}
 use lib.ListN.{length, take, drop, length-append, length-drop, take-append-drop}
 use lib.Seq.{drop-append-add, length-take-le}
 use borrow.Author.Tests.{ltb-true, ltb-false, leb-true, eqb-true}
+use Rattle.std.proofs.lemmas.Bool.{false_from_ne_true}
 use Rattle.gap.specs.Rules.Lines.{newline, newlines, since_after}
 use Rattle.gap.specs.Wording.LinesAfter.{lines_fit_after}
 use Rattle.gap.proofs.Laws.Tests.{decided, and_left}
 use Rattle.gap.proofs.Laws.Lines.{since-fits, since-unbroken}
 use Rattle.gap.proofs.Laws.LineLimits.{after-append, after-short, after-ended, after-since, carried-fits}
-
-refuted : (t : Bool) → (t ≡ true → ⊥) → false ≡ t
-refuted true never = absurd (never refl)
-refuted false never = refl
 
 -- ---- The last newline of a text
 
@@ -74,7 +71,7 @@ pub record Fitting (limit n : ℕ) (s : List ℕ) (room : ℕ) (left : List ℕ)
 
 module _ (limit n : ℕ) (s : List ℕ) where
   pub fitting-over : limit < n → false ≡ lines_fit_after limit n s
-  fitting-over over = refuted _ (λ fits. omega (arith, leb-true n limit (carried-fits limit n s fits)))
+  fitting-over over = sym (false_from_ne_true _ (λ fits. omega (arith, leb-true n limit (carried-fits limit n s fits))))
 
   module _ {room : ℕ} {left : List ℕ} (so_far : Fitting limit n s room left) where
     pub fitting-all : length left ≤ room → true ≡ lines_fit_after limit n s
@@ -89,7 +86,7 @@ module _ (limit n : ℕ) (s : List ℕ) where
       long = length-take-le (room + 1) left (omega arith)
 
       pub fitting-none : room < last → false ≡ lines_fit_after limit n s
-      fitting-none none = refuted _ never
+      fitting-none none = sym (false_from_ne_true _ never)
         where
           never : lines_fit_after limit n s ≡ true → ⊥
           never fits =

@@ -5,6 +5,7 @@ use mathlib.Core.List.{List, ◌++◌}
 use Prim.Native.Nat.{ℕ, ◌+◌, ◌-◌, ◌≤◌}
 use lib.Dec.{leb}
 use lib.ListN.{length, take, drop}
+use Rattle.std.proofs.lemmas.Bool.{and_left}
 use Rattle.gap.specs.Rules.Doc.{content}
 use Rattle.gap.specs.Rules.Layout.{ungap, sound_gap}
 use Rattle.gap.specs.Rules.Lines.{since_after, since}
@@ -14,9 +15,6 @@ use Rattle.gap.specs.Wording.LinesAfter.{lines_fit_after}
 use Rattle.gap.proofs.Laws.Runs.{tail_of, tail-lent}
 use Rattle.gap.proofs.Laws.Layout.{is-gap}
 use Rattle.gap.proofs.Laws.LineLimits.{after_nothing, fit_append, fit-runs}
-
-fails-here : (ok rest : Bool) → ok ≡ false → false ≡ (ok && rest)
-fails-here ok rest fails = sym (ap (λ t. t && rest) fails)
 
 passes-here : (ok rest : Bool) → ok ≡ true → rest ≡ (ok && rest)
 passes-here ok rest passes = sym (ap (λ t. t && rest) passes)
@@ -32,11 +30,11 @@ module _ (limit : ℕ) (front x y behind : List ℕ) (fits : (lines_fit limit fr
 
   module _ {at_x : ℕ} {ok-x : Bool} (p : at_x ≡ since front) (tested-x : ok-x ≡ lines_fit_after limit at_x x) where
     pub runs-first : ok-x ≡ false → false ≡ lines_fit limit (front ++ (x ++ (y ++ behind)))
-    runs-first fails = fails-here ok-x _ fails ∙ runs_as p tested-x refl refl refl refl
+    runs-first fails = sym (and_left ok-x _ fails) ∙ runs_as p tested-x refl refl refl refl
 
     module _ (passes-x : ok-x ≡ true) {at_y : ℕ} {ok-y : Bool} (q : at_y ≡ since_after at_x x) (tested-y : ok-y ≡ lines_fit_after limit at_y y) where
       pub runs-second : ok-y ≡ false → false ≡ lines_fit limit (front ++ (x ++ (y ++ behind)))
-      runs-second fails = fails-here ok-y _ fails ∙ passes-here ok-x _ passes-x ∙ runs_as p tested-x q tested-y refl refl
+      runs-second fails = sym (and_left ok-y _ fails) ∙ passes-here ok-x _ passes-x ∙ runs_as p tested-x q tested-y refl refl
 
       pub runs_last : ok-y ≡ true → {at : ℕ} {ok : Bool} → at ≡ since_after at_y y → ok ≡ leb (at + length (line_of behind)) limit
           → ok ≡ lines_fit limit (front ++ (x ++ (y ++ behind)))
@@ -57,7 +55,7 @@ module _ (limit l r : ℕ) (s : List ℕ) {sound : Bool} (tested : sound ≡ sou
         (ap₂ ◌&&◌ (tested-l ∙ after_nothing limit (take l s)) tested-r ∙ sym (fit_append limit (take l s) (drop (length s - r) s)))
 
     pub document-left : ok-l ≡ false → false ≡ (sound_gap l r s && lines_fit limit (content (ungap l r s)))
-    document-left fails = fails-here ok-l _ fails ∙ passes-here sound _ passes ∙ whole refl
+    document-left fails = sym (and_left ok-l _ fails) ∙ passes-here sound _ passes ∙ whole refl
 
     pub document-right : ok-l ≡ true → {at start : ℕ} {ok-r : Bool} → at ≡ since (take l s) → start ≡ length s - r
         → ok-r ≡ lines_fit_after limit at (tail_of start s)
