@@ -2,28 +2,21 @@
 ghost use Rattle.std.specs.Prelude.{◌≡◌, ◌≤◌, length, drop};
 ghost use Rattle.gap.specs.Rules.Sequence.{same_bytes, begins};
 
-// Two runs of one length are the same. The loop carries a flag and has neither branch nor exit, so that it is vectorised.
+// Two runs of one length are the same.
+#[tactic(auto, using(crate::proofs::Laws::Compared::pointwise_same))]
 pub fn same_run(a: &[u8], b: &[u8]) -> bool
     requires { length a.now ≡ length b.now }
     ensures { result ≡ same_bytes a.now b.now }
 {
-    let mut same = true;
-    let mut i = 0;
-    while i < a.len() {
-        same = same & (a[i] == b[i]);
-        i += 1;
-    }
-    same
+    a == b
 }
 
 // Both are the same, byte for byte.
+#[tactic(auto, using(crate::proofs::Laws::Compared::pointwise_same))]
 pub fn same_bytes(a: &[u8], b: &[u8]) -> bool
     ensures { result ≡ same_bytes a.now b.now }
 {
-    if a.len() != b.len() {
-        return false;
-    }
-    same_run(a, b)
+    a == b
 }
 
 // A run of bytes has the pattern at place `at`.
@@ -31,17 +24,13 @@ pub fn run_begins(t: &[u8], at: usize, pattern: &[u8]) -> bool
     requires { at ≤ length t.now }
     ensures { result ≡ begins pattern.now (drop at t.now) }
 {
-    let m = pattern.len();
-    if t.len() - at < m {
-        return false;
-    }
-    let end = at + m;
-    same_run(pattern, &t[at..end])
+    t[at..].starts_with(pattern)
 }
 
 // The word stands at the front.
+#[tactic(auto, using(crate::proofs::Laws::Compared::starts_begins))]
 pub fn begins_with(word: &[u8], s: &[u8]) -> bool
     ensures { result ≡ begins word.now s.now }
 {
-    run_begins(s, 0, word)
+    s.starts_with(word)
 }

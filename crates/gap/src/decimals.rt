@@ -4,18 +4,13 @@ ghost use Rattle.gap.specs.Rules.Sequence.{every};
 ghost use Rattle.gap.specs.Rules.Decimal.{digit, value, word_digits, is_number, number_of, decimal};
 ghost use Rattle.gap.specs.Wording.Written.{Wrote};
 
+use crate::sound::all_pass;
+
 // Every byte is a digit.
 fn all_digits(s: &[u8]) -> bool
     ensures { result ≡ every digit s.now }
 {
-    let mut ok = true;
-    let mut i = 0;
-    while i < s.len() {
-        let b = s[i];
-        ok = ok & ((48 <= b) & (b <= 57));
-        i += 1;
-    }
-    ok
+    all_pass(s, |b| (b'0' <= b) & (b <= b'9'))
 }
 
 // The bytes write a number of at most so many digits. The length comes first, so that a long line is not gone through.
@@ -28,7 +23,7 @@ fn is_number(most: usize, s: &[u8]) -> bool
     if most < s.len() {
         return false;
     }
-    all_digits(s) & ((s.len() == 1) | (s[0] != 48))
+    all_digits(s) & ((s.len() == 1) | (s[0] != b'0'))
 }
 
 // What the digits are worth: there are no more than a machine word has room for, so that no sum can wrap.
@@ -36,12 +31,9 @@ fn value_of(s: &[u8]) -> usize
     requires { (length s.now ≤ word_digits) × (every digit s.now ≡ true) }
     ensures { result ≡ value s.now }
 {
-    let mut n: usize = 0;
-    let mut i = 0;
-    while i < s.len() {
-        let b = s[i];
-        n = n * 10 + (b - 48) as usize;
-        i += 1;
+    let mut n = 0;
+    for b in s {
+        n = n * 10 + usize::from(*b - b'0');
     }
     n
 }

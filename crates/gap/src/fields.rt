@@ -4,7 +4,6 @@ ghost use Rattle.gap.specs.Rules.Decimal.{word_digits};
 ghost use Rattle.gap.specs.Rules.Fields.{next_at, line_number, field_of, header_at, entry};
 ghost use Rattle.gap.specs.Wording.Written.{Wrote};
 
-use crate::compare::begins_with;
 use crate::decimals::{number_of, put_decimal};
 use crate::lines::{count_newlines, end_at};
 use crate::writers::put;
@@ -34,11 +33,7 @@ pub fn field_of(word: &[u8], most: usize, line: &[u8]) -> Option<usize>
     requires { most ≤ word_digits }
     ensures { result ≡ field_of word.now most line.now }
 {
-    if !begins_with(word, line) {
-        return None;
-    }
-    let n = word.len();
-    number_of(most, &line[n..])
+    number_of(most, line.strip_prefix(word)?)
 }
 
 // The number of a line that must end in a newline.

@@ -8,14 +8,7 @@ use crate::lines::since_newline;
 fn leading_spaces(s: &[u8]) -> usize
     ensures { result ≡ leading s.now }
 {
-    let mut n = 0;
-    while n < s.len() {
-        if s[n] != 32 {
-            return n;
-        }
-        n += 1;
-    }
-    n
+    s.iter().take_while(|b| **b == b' ').count()
 }
 
 // The leading spaces of the line on which a text ends, as far as the text goes.

@@ -10,8 +10,8 @@ use crate::lines::{end_at, since_newline};
 use crate::sound::sound_gap;
 
 // No line is longer than the limit, of a run that follows n bytes of its line. Lines are not walked one by one: `room` bytes may still stand
-// on the line that goes on at i, and among one more than these the last newline is looked for from the back. Whatever lines lie before it are
-// within the limit; where there is none, the line is too long.
+// on the line that goes on with the rest, and among one more than these the last newline is looked for from the back. Whatever lines lie before
+// it are within the limit; where there is none, the line is too long.
 pub fn lines_fit(limit: usize, n: usize, s: &[u8]) -> bool
     ensures { result ≡ lines_fit_after limit n s.now }
 {
@@ -19,14 +19,14 @@ pub fn lines_fit(limit: usize, n: usize, s: &[u8]) -> bool
         return false;
     }
     let mut room = limit - n;
-    let mut i = 0;
-    while room < s.len() - i {
-        let end = i + room + 1;
-        let since = since_newline(0, &s[i..end]);
+    let mut rest = s;
+    while room < rest.len() {
+        let end = room + 1;
+        let since = since_newline(0, &rest[..end]);
         if room < since {
             return false;
         }
-        i = end - since;
+        rest = &rest[end - since..];
         room = limit;
     }
     true
@@ -77,7 +77,8 @@ pub fn sound_document(limit: usize, s: &[u8], l: usize, r: usize) -> bool
     lines_fit(limit, at, &s[start..])
 }
 
-// Where the first longer line begins. Line by line only where there is one.
+// Where the first longer line begins. Line by line only where there is one; `split` would give the lines without their places, which had to be
+// counted beside them.
 pub fn long_line(limit: usize, s: &[u8]) -> Option<usize>
     ensures { result ≡ long_line limit s.now }
 {

@@ -1,20 +1,19 @@
 // Newlines of a run of bytes.
-ghost use Rattle.std.specs.Prelude.{◌≡◌, not, ◌+◌, ◌^◌, ◌≤◌, ◌<◌, eqb, length};
+ghost use Rattle.std.specs.Prelude.{◌≡◌, ◌≢◌, not, ℕ, ◌+◌, ◌^◌, ◌≤◌, ◌<◌, eqb, length, slice_index, IfSome, IfNone};
 ghost use Rattle.gap.specs.Rules.Sequence.{every};
 ghost use Rattle.gap.specs.Rules.Lines.{newline, newlines, since_after, Unbroken};
 ghost use Rattle.gap.specs.Rules.Fields.{end_at};
+
+use crate::sound::all_pass;
 
 // The newlines of a short run, in a byte, so that the loop is vectorised.
 fn newlines_short(s: &[u8]) -> u8
     requires { length s.now ≤ 255 }
     ensures { result ≡ newlines s.now }
 {
-    let mut count: u8 = 0;
-    let mut i = 0;
-    while i < s.len() {
-        let b = s[i];
-        count += (b == 10) as u8;
-        i += 1;
+    let mut count = 0;
+    for b in s {
+        count += u8::from(*b == b'\n');
     }
     count
 }
@@ -23,32 +22,18 @@ fn newlines_short(s: &[u8]) -> u8
 pub fn count_newlines(s: &[u8]) -> usize
     ensures { result ≡ newlines s.now }
 {
-    let n = s.len();
-    let mut count: usize = 0;
-    let mut i = 0;
-    while i < n {
-        let mut size = n - i;
-        if 192 < size {
-            size = 192;
-        }
-        let end = i + size;
-        count += newlines_short(&s[i..end]) as usize;
-        i = end;
+    let mut count = 0;
+    for block in s.chunks(192) {
+        count += usize::from(newlines_short(block));
     }
     count
 }
 
-// A run has a newline. The loop carries a flag and has neither branch nor exit, so that it is vectorised.
+// A run has a newline.
 fn has_newline(s: &[u8]) -> bool
     ensures { result ≡ not (every (λ b. not (eqb b newline)) s.now) }
 {
-    let mut none = true;
-    let mut i = 0;
-    while i < s.len() {
-        none = none & (s[i] != 10);
-        i += 1;
-    }
-    !none
+    !all_pass(s, |b| b != b'\n')
 }
 
 // A place from which on there is no newline: from the back, in blocks of 32 bytes, only as far as one that has a newline.
@@ -56,33 +41,49 @@ fn back_without(s: &[u8]) -> usize
     ensures { Unbroken s.now result (length s.now) }
 {
     let mut i = s.len();
-    while 32 <= i {
-        let start = i - 32;
-        let front = &s[start..i];
-        if has_newline(front) {
+    for block in s.rchunks_exact(32) {
+        if has_newline(block) {
             return i;
         }
-        i = start;
+        i -= block.len();
     }
     i
 }
 
-// A place up to which there is no newline from place `at` on: the same in the other direction.
+// A place up to which there is no newline from place `at` on: the same in the other direction. One function over both would have to be handed
+// how the place goes on from a block.
 fn front_without(s: &[u8], at: usize) -> usize
     requires { at ≤ length s.now }
     ensures { Unbroken s.now at result }
 {
-    let n = s.len();
     let mut i = at;
-    while 32 <= n - i {
-        let end = i + 32;
-        let behind = &s[i..end];
-        if has_newline(behind) {
+    for block in s[at..].chunks_exact(32) {
+        if has_newline(block) {
             return i;
         }
-        i = end;
+        i += block.len();
     }
     i
+}
+
+// Where the first newline of a run stands.
+fn first_newline(s: &[u8]) -> Option<usize>
+    ensures inside { IfSome result (λ i. i < length s.now) }
+    ensures newline { IfSome result (λ i. slice_index s.now i ≡ newline) }
+    ensures none_before { IfSome result (λ i. (k : ℕ) → k < i → slice_index s.now k ≢ newline) }
+    ensures none { IfNone result ((k : ℕ) → k < length s.now → slice_index s.now k ≢ newline) }
+{
+    s.iter().position(|b| *b == b'\n')
+}
+
+// Where the last one stands.
+fn last_newline(s: &[u8]) -> Option<usize>
+    ensures inside { IfSome result (λ i. i < length s.now) }
+    ensures newline { IfSome result (λ i. slice_index s.now i ≡ newline) }
+    ensures none_behind { IfSome result (λ i. (k : ℕ) → i < k → k < length s.now → slice_index s.now k ≢ newline) }
+    ensures none { IfNone result ((k : ℕ) → k < length s.now → slice_index s.now k ≢ newline) }
+{
+    s.iter().rposition(|b| *b == b'\n')
 }
 
 // Where the line that starts at `at` ends: at a newline, or at the end.
@@ -90,14 +91,11 @@ pub fn end_at(s: &[u8], at: usize) -> usize
     requires { at ≤ length s.now }
     ensures { result ≡ end_at s.now at }
 {
-    let mut end = front_without(s, at);
-    while end < s.len() {
-        if s[end] == 10 {
-            return end;
-        }
-        end += 1;
+    let start = front_without(s, at);
+    match first_newline(&s[start..]) {
+        Some(i) => start + i,
+        None => s.len(),
     }
-    end
 }
 
 // The bytes since the last newline, of a run that follows n bytes of its line: from the back, only as far as that newline.
@@ -105,13 +103,9 @@ pub fn since_newline(n: usize, s: &[u8]) -> usize
     requires { n + length s.now < 2 ^ 64 }
     ensures { result ≡ since_after n s.now }
 {
-    let mut i = back_without(s);
-    while 0 < i {
-        let last = i - 1;
-        if s[last] == 10 {
-            return s.len() - i;
-        }
-        i = last;
+    let end = back_without(s);
+    match last_newline(&s[..end]) {
+        Some(last) => s.len() - (last + 1),
+        None => n + s.len(),
     }
-    n + s.len()
 }

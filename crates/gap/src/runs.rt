@@ -2,24 +2,12 @@
 ghost use Rattle.std.specs.Prelude.{◌≡◌, ◌++◌, ◌+◌, ◌-◌, ◌≤◌, ◌<◌, length, take, drop, replicate};
 ghost use Rattle.gap.specs.Rules.Sequence.{part, patch, zeros};
 
-use crate::numbers::smaller;
-
-// Every byte becomes b.
-fn fill(s: &mut [u8], b: u8)
-    ensures { s.new ≡ replicate (length s.old) b }
-{
-    let mut i = 0;
-    while i < s.len() {
-        s[i] = b;
-        i += 1;
-    }
-}
-
 // Every byte becomes 0.
+#[tactic(auto, unfolding(crate::specs::Rules::Sequence::zeros))]
 pub fn clear(s: &mut [u8])
     ensures { s.new ≡ zeros (length s.old) }
 {
-    fill(s, 0);
+    s.fill(0);
 }
 
 // The run is copied to the front.
@@ -27,11 +15,7 @@ pub fn copy_front(s: &mut [u8], run: &[u8])
     requires { length run.now ≤ length s.old }
     ensures { s.new ≡ run.now ++ drop (length run.now) s.old }
 {
-    let mut i = 0;
-    while i < run.len() {
-        s[i] = run[i];
-        i += 1;
-    }
+    s[..run.len()].copy_from_slice(run);
 }
 
 // The run goes to place `at`.
@@ -48,10 +32,11 @@ pub fn fill_at(s: &mut [u8], at: usize, d: usize, b: u8)
     ensures { s.new ≡ patch at (replicate d b) s.old }
 {
     let end = at + d;
-    fill(&mut s[at..end], b);
+    s[at..end].fill(b);
 }
 
 // The d bytes from `at` on become 0: vacated bytes are cleared at once.
+#[tactic(auto, unfolding(crate::specs::Rules::Sequence::zeros))]
 pub fn vacate(s: &mut [u8], at: usize, d: usize)
     requires { at + d ≤ length s.old }
     ensures { s.new ≡ patch at (zeros d) s.old }
@@ -89,57 +74,18 @@ pub fn take_out(s: &mut [u8], at: usize, d: usize, pair: &mut [u8])
     vacate(s, at, d);
 }
 
-// A block of at most 256 bytes is copied from one place to another. It is copied out before it is stored, so that the two places may
-// overlap or be the same.
-pub fn carry(s: &mut [u8], from: usize, to: usize, size: usize)
-    requires size_bound { size ≤ 256 }
-    requires size_in_bounds { (from + size ≤ length s.old) × (to + size ≤ length s.old) }
-    ensures { s.new ≡ patch to (part from size s.old) s.old }
-{
-    let mut block = [0u8; 256];
-    let end = from + size;
-    copy_front(&mut block, &s[from..end]);
-    copy_at(s, to, &block[..size]);
-}
-
-// Where in a run of d bytes the next block lies, if `left` of them are still to go: at their end on the way up, else at their front.
-// So no block is stored over one that is still to go.
-fn block_at(from: usize, to: usize, d: usize, left: usize, size: usize) -> usize
-    requires { (size ≤ left) × (left ≤ d) }
-    ensures { (result + size ≤ d) × (from < to → result ≡ left - size) × (to ≤ from → result ≡ d - left) }
-{
-    if from < to {
-        return left - size;
-    }
-    d - left
-}
-
-// A run of any length is copied from one place to another, block by block; the two places may overlap or be the same.
-fn slide(s: &mut [u8], from: usize, to: usize, d: usize)
-    requires { (from + d ≤ length s.old) × (to + d ≤ length s.old) }
-    ensures { s.new ≡ patch to (part from d s.old) s.old }
-{
-    let mut left = d;
-    while 0 < left {
-        let size = smaller(left, 256);
-        let at = block_at(from, to, d, left, size);
-        carry(s, from + at, to + at, size);
-        left -= size;
-    }
-}
-
-// A run of any length goes from one place to another, and its old place becomes 0. The run is copied first; then only what its new
-// place leaves bare of the old one has to be cleared: bytes at the front on the way up, else at the end.
+// A run of any length goes from one place to another, which may overlap, and its old place becomes 0. The run is copied first; then only
+// what its new place leaves bare of the old one has to be cleared: bytes at the front on the way up, else at the end.
 pub fn shift(s: &mut [u8], from: usize, to: usize, d: usize)
     requires { (from + d ≤ length s.old) × (to + d ≤ length s.old) }
     ensures { s.new ≡ patch to (part from d s.old) (patch from (zeros d) s.old) }
 {
-    slide(s, from, to, d);
+    s.copy_within(from..from + d, to);
     if from < to {
-        let bare = smaller(d, to - from);
+        let bare = d.min(to - from);
         vacate(s, from, bare);
         return;
     }
-    let bare = smaller(d, from - to);
+    let bare = d.min(from - to);
     vacate(s, from + (d - bare), bare);
 }

@@ -1,94 +1,73 @@
-// Tests of bytes and of whole stores. The loops carry a flag and have neither branch nor exit, so that they are vectorised.
-ghost use Rattle.std.specs.Prelude.{◌≡◌, true, false, not, ◌&&◌, ◌++◌, ◌+◌, ◌-◌, ◌≤◌, ◌<◌, length, take, drop, get_or};
+// Tests of bytes and of whole stores.
+ghost use Rattle.std.specs.Prelude.{◌≡◌, ℕ, Bool, true, false, not, ◌&&◌, ◌++◌, ◌+◌, ◌-◌, ◌≤◌, ◌<◌, length, take, drop, get_or};
 ghost use Rattle.gap.specs.Rules.Sequence.{every, part};
 ghost use Rattle.gap.specs.Rules.Nearest.{nearest};
 ghost use Rattle.gap.specs.Rules.Layout.{printable, allowed, free, sound_gap, sound_pair};
+ghost use Rattle.gap.specs.Wording.Closures.{Says};
 
 // A byte that is printed.
 fn is_printable(b: u8) -> bool
     ensures { result ≡ printable b }
 {
-    (32 <= b) & (b <= 126)
+    (b' ' <= b) & (b <= b'~')
 }
 
 // A byte that a text may have.
 pub fn is_allowed(b: u8) -> bool
     ensures { result ≡ allowed b }
 {
-    (b == 10) | is_printable(b)
+    (b == b'\n') | is_printable(b)
+}
+
+// Every byte passes the test. The loop carries a flag and has neither branch nor exit, so that it is vectorised.
+pub(crate) fn all_pass<F: Fn(u8) -> bool>(s: &[u8], test: F) -> bool
+    requires { F.IsAlwaysCallable test }
+    ensures { (passes : ℕ → Bool) → Says (F.post test) passes → result ≡ every passes s.now }
+{
+    let mut ok = true;
+    for b in s {
+        ok &= test(*b);
+    }
+    ok
+}
+
+// The first byte that fails the test. Byte by byte only where there is one.
+fn first_failing<F: Fn(u8) -> bool>(s: &[u8], test: F) -> Option<usize>
+    requires { F.IsAlwaysCallable test }
+    ensures { (passes : ℕ → Bool) → Says (F.post test) passes → result ≡ nearest (λ i. not (passes (get_or s.now i 0))) (length s.now) 0 }
+{
+    if all_pass(s, &test) {
+        return None;
+    }
+    s.iter().position(|b| !test(*b))
 }
 
 // Every byte is allowed in a text.
 pub fn all_allowed(s: &[u8]) -> bool
     ensures { result ≡ every allowed s.now }
 {
-    let mut ok = true;
-    let mut i = 0;
-    while i < s.len() {
-        ok = ok & is_allowed(s[i]);
-        i += 1;
-    }
-    ok
+    all_pass(s, is_allowed)
 }
 
 // Every byte is 0.
 pub fn all_free(s: &[u8]) -> bool
     ensures { result ≡ every free s.now }
 {
-    let mut ok = true;
-    let mut i = 0;
-    while i < s.len() {
-        ok = ok & (s[i] == 0);
-        i += 1;
-    }
-    ok
+    all_pass(s, |b| b == 0)
 }
 
-// The first byte that is not allowed. Byte by byte only where there is one.
+// The first byte that is not allowed.
 pub fn bad_byte(s: &[u8]) -> Option<usize>
     ensures { result ≡ nearest (λ i. not (allowed (get_or s.now i 0))) (length s.now) 0 }
 {
-    if all_allowed(s) {
-        return None;
-    }
-    let mut i = 0;
-    while i < s.len() {
-        if !is_allowed(s[i]) {
-            return Some(i);
-        }
-        i += 1;
-    }
-    None
+    first_failing(s, is_allowed)
 }
 
-// Every byte is one that is printed.
-fn all_printable(s: &[u8]) -> bool
-    ensures { result ≡ every printable s.now }
-{
-    let mut ok = true;
-    let mut i = 0;
-    while i < s.len() {
-        ok = ok & is_printable(s[i]);
-        i += 1;
-    }
-    ok
-}
-
-// The first byte that is not printed. Byte by byte only where there is one.
+// The first byte that is not printed.
 pub fn bad_cell(s: &[u8]) -> Option<usize>
     ensures { result ≡ nearest (λ i. not (printable (get_or s.now i 0))) (length s.now) 0 }
 {
-    if all_printable(s) {
-        return None;
-    }
-    let mut i = 0;
-    while i < s.len() {
-        if !is_printable(s[i]) {
-            return Some(i);
-        }
-        i += 1;
-    }
-    None
+    first_failing(s, is_printable)
 }
 
 // Texts of l and r bytes fit into n. No sum is formed, so that none can wrap.
@@ -123,7 +102,7 @@ pub fn sound_gap(s: &[u8], l: usize, r: usize) -> bool
     false
 }
 
-// The store is a sound pair store for these lengths.
+// The store is a sound pair store for these lengths: the same test, with all free bytes behind the texts.
 pub fn sound_pair(s: &[u8], l: usize, r: usize) -> bool
     ensures { result ≡ sound_pair l r s.now }
 {

@@ -1,4 +1,5 @@
-// Gap stores: moving the cursor, inserting, deleting into a pair store, and placing a pair into the text.
+// Gap stores: moving the cursor, inserting, deleting into a pair store, and placing a pair into the text. Left and right stand apart: each asks
+// a bound of its own and names places of its own, so that one function over the direction would be both of them behind a `match`.
 ghost use Rattle.std.specs.Prelude.{◌≡◌, [], ◌∷◌, ◌+◌, ◌≤◌, ◌<◌, length, take};
 ghost use Rattle.gap.specs.declared.Direction.TheVariants.{Left, Right};
 ghost use Rattle.gap.specs.Rules.Doc.{empty, move, delete, times, removed, splice};
@@ -43,7 +44,7 @@ pub fn insert_spaced(s: &mut [u8], l: usize, r: usize, b: u8, n: usize)
     ensures { s.new ≡ gapped (length s.old) (splice 0 0 (record { l = b ∷ spaces n; r = [] }) (ungap l r s.old)) }
 {
     s[l] = b;
-    fill_at(s, l + 1, n, 32);
+    fill_at(s, l + 1, n, b' ');
 }
 
 // The d bytes left of the cursor go into the pair store, which then holds nothing else.

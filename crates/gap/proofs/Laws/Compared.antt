@@ -1,23 +1,43 @@
 -- Laws of comparing runs of bytes, and of what a text begins with.
-use mathlib.Core.Path.{◌≡◌, refl, sym, ap, ◌∙◌}
+use mathlib.Core.Path.{◌≡◌, refl, sym, ap, ap₂, ◌∙◌}
 use mathlib.Core.Logic.{⊎_elim}
-use mathlib.Core.Bool.{Bool, true, false, ◌&&◌, and-false, and-true, and_assoc}
+use mathlib.Core.Bool.{Bool, true, false, ◌&&◌, and-false, and_assoc}
 use mathlib.Core.List.{List, [], ◌∷◌, ◌++◌}
-use Prim.Native.Nat.{ℕ, ◌+◌, ◌-◌, ◌≤◌, ◌<◌}
-use native.Mathlib.Numerals.{add-one}
+use Prim.Native.Nat.{ℕ, ◌+◌, ◌≤◌, ◌<◌}
 use native.Mathlib.Omega.{arith}
 use lib.Dec.{eqb}
-use lib.ListN.{length, take, drop, get_or, length-append, length-drop, drop_of_length-le, get_or-append}
-use lib.Seq.{drop-cons, take-append-le, get_or-drop}
+use lib.Pointwise.{pointwise}
+use lib.ListN.{length, take, drop, get_or, length-append, get_or-append}
+use lib.Seq.{take-append-le, get_or-drop}
+use borrow.Author.Tests.{eqb-true, eq-eqb, ne_eqb}
+use Rattle.std.specs.List.{starts_with}
 use Rattle.gap.specs.Rules.Sequence.{same_bytes, begins, part}
-use Rattle.gap.proofs.Laws.Tests.{decided}
-use Rattle.gap.proofs.Laws.Sequence.{same-equal, begins-split, length_part}
+use Rattle.gap.proofs.Laws.Tests.{decided, clash}
+use Rattle.gap.proofs.Laws.Sequence.{begins-split, length_part}
 use Rattle.gap.proofs.Laws.Runs.{tail_of, tail-lent}
 use Rattle.gap.proofs.Laws.Patches.{part-both}
 
--- Sequences of different lengths are not the same.
-pub same-apart : (a b : List ℕ) → (length a ≡ length b → ⊥) → false ≡ same_bytes a b
-same-apart a b apart = ⊎_elim (λ e. absurd (apart (ap length (same-equal a b e)))) sym (decided (same_bytes a b))
+-- `==` of slices compares as the definition does.
+pub pointwise_same : (a b : List ℕ) → pointwise eqb a b ≡ same_bytes a b
+unfolding same_bytes
+pointwise_same [] [] = refl
+pointwise_same [] (y ∷ b) = refl
+pointwise_same (x ∷ a) [] = refl
+pointwise_same (x ∷ a) (y ∷ b) = ap (λ rest. eqb x y && rest) (pointwise_same a b)
+
+-- It does not matter which of the two comes first.
+byte-swapped : (a b : ℕ) → eqb a b ≡ eqb b a
+byte-swapped a b =
+    ⊎_elim (λ e. e ∙ sym (eq-eqb b a (sym (eqb-true a b e))))
+    (λ e. e ∙ sym (ne_eqb b a (λ h. clash (eq-eqb a b (sym h)) e)))
+    (decided (eqb a b))
+
+pub same_swapped : (a b : List ℕ) → same_bytes a b ≡ same_bytes b a
+unfolding same_bytes
+same_swapped [] [] = refl
+same_swapped [] (y ∷ b) = refl
+same_swapped (x ∷ a) [] = refl
+same_swapped (x ∷ a) (y ∷ b) = ap₂ ◌&&◌ (byte-swapped x y) (same_swapped a b)
 
 -- Runs put together are the same where their parts are, and so are parts side by side.
 pub same-append : (a s b t : List ℕ) → length a ≡ length s → same_bytes (a ++ b) (s ++ t) ≡ (same_bytes a s && same_bytes b t)
@@ -35,31 +55,6 @@ same_parts a m n s t fits also =
     let as_long = length_part a m s fits ∙ sym (length_part a m t also) in
     rw (← part-both a m n s, ← part-both a m n t)
     (sym (same-append (part a m s) (part a m t) (part (a + m) n s) (part (a + m) n t) as_long))
-
--- Of two runs of one length, `same` tells whether the first i bytes agree, and those from i on decide the rest.
-pub record Same (a b : List ℕ) (same : Bool) (i : ℕ) : Type 0 where
-  pub size : length a ≡ length b
-  pub within : i ≤ length a
-  pub rest : same_bytes a b ≡ (same && same_bytes (drop i a) (drop i b))
-
-pub same_start : (a b : List ℕ) → length a ≡ length b → Same a b true 0
-same_start a b size = record { size = size; within = omega arith; rest = refl }
-
-module _ {a b : List ℕ} {same : Bool} {i : ℕ} (so_far : Same a b same i) where
-  pub same_more : i < length a → Same a b (same && eqb (get_or a i 0) (get_or b i 0)) (i + 1)
-  unfolding same_bytes
-  same_more more =
-      let inside : i < length b = omega arith in record {
-        size = so_far.size;
-        within = omega arith;
-        rest = so_far.rest ∙ rw (add-one, drop-cons a i 0, drop-cons b i 0) (sym (and_assoc same _ _));
-      }
-
-  pub same-all : length a ≤ i → same ≡ same_bytes a b
-  unfolding same_bytes
-  same-all end =
-      let behind : length b ≤ i = omega arith in
-      sym (so_far.rest ∙ rw (drop_of_length-le a end, drop_of_length-le b behind) (and-true same))
 
 -- ---- What a text begins with
 
@@ -102,17 +97,12 @@ module _ (pattern x y : List ℕ) (short : length x < length pattern) {same : Bo
   pub runs-differ : same ≡ false → false ≡ begins pattern (x ++ y)
   runs-differ e = sym (begins-seam pattern x y (omega arith) ∙ rw (sym compared ∙ e))
 
--- What a run has at place `at`: less than the pattern, or as many bytes, which are compared.
+-- `starts_with` of slices is the test of a pattern; and where the pattern stands, each of its bytes does.
+pub starts_begins : (pattern text : List ℕ) → starts_with eqb text pattern ≡ begins pattern text
+unfolding begins
+starts_begins pattern text = pointwise_same pattern (take (length pattern) text)
+
 module _ (pattern text : List ℕ) (at : ℕ) where
-  pub run_short : length text - at < length pattern → false ≡ begins pattern (drop at text)
-  run_short short = begins-short pattern (drop at text) (rw length-drop short)
-
-  pub run-same : {same : Bool} → same ≡ same_bytes pattern (take (at + length pattern - at) (drop at text))
-      → same ≡ begins pattern (drop at text)
-  unfolding begins
-  run-same e = let size : at + length pattern - at ≡ length pattern = omega arith in rw size at e
-
-  -- Where the pattern stands, each of its bytes does.
   pub byte-stands : begins pattern (drop at text) ≡ true → (j : ℕ) → j < length pattern → get_or text (at + j) 0 ≡ get_or pattern j 0
   byte-stands here j inside =
       sym (get_or-drop at text j 0) ∙ ap (λ t. get_or t j 0) (begins-split pattern (drop at text) here) ∙ get_or-append pattern _ 0 j inside

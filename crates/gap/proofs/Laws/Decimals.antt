@@ -1,30 +1,28 @@
 -- Laws of decimal numbers: the digits that a number is written with, and the number that digits write.
 use Rattle.std.proofs.Common.{Some, None}
 use mathlib.Core.Path.{◌≡◌, refl, sym, ap, ◌∙◌}
-use mathlib.Core.Logic.{◌⊎◌, inl, inr, ⊎_elim}
+use mathlib.Core.Logic.{⊎_elim}
 use mathlib.Core.Bool.{Bool, true, false, ◌&&◌, ◌||◌, not, and-false}
 use mathlib.Core.List.{List, [], ◌∷◌, ◌++◌}
 use Prim.Native.Nat.{ℕ, zero, suc, ◌+◌, ◌-◌, ◌*◌, ◌/◌, ◌%◌, ◌^◌, ◌≤◌, ◌<◌}
 use native.Mathlib.Nat.{add-zero, not-suc-le-zero, pow-suc, pow-le-pow_right}
 use native.Mathlib.Numerals.{add-one}
 use native.Mathlib.Omega.{arith}
-use lib.Dec.{eqb, leb, ltb}
+use lib.Dec.{eqb, leb}
 use lib.ListN.{length, drop, get_or, length-append, drop_of_length-le}
 use lib.Seq.{drop-cons}
-use borrow.Author.Tests.{ltb-true, ltb-false, leb-true, lt-ltb, le-ltb, le-leb, lt-leb}
+use borrow.Author.Tests.{leb-true, lt-ltb, le-ltb, le-leb, lt-leb}
+use Rattle.std.proofs.lemmas.Bool.{cases_lt}
 use Rattle.gap.specs.Rules.Sequence.{every}
 use Rattle.gap.specs.Rules.Decimal.{digit, value_after, value, word_digits, is_number, number_of, digits_in, decimal}
-use Rattle.gap.proofs.Laws.Tests.{decided, and_left, and_right, and_both, cond-true, cond-false}
+use Rattle.gap.proofs.Laws.Tests.{and_left, and_right, and_both, cond-true, cond-false}
 use Rattle.gap.proofs.Laws.Sequence.{every-both, every-at}
-
-small-or-large : (n : ℕ) → (n < 10) ⊎ (10 ≤ n)
-small-or-large n = ⊎_elim (λ yes-it-is. inl (ltb-true n 10 yes-it-is)) (λ no-it-is. inr (ltb-false n 10 no-it-is)) (decided (ltb n 10))
 
 -- What holds below ten, and of any other number if it holds of its tenth part, holds of every number.
 module _ (P : ℕ → Type 0) (small : (n : ℕ) → n < 10 → P n) (large : (n : ℕ) → 10 ≤ n → P (n / 10) → P n) where
   below : (most n : ℕ) → n < most → P n
   below zero n h = absurd (not-suc-le-zero h)
-  below (suc most) n h = ⊎_elim (small n) (λ more. large n more (below most (n / 10) (omega arith))) (small-or-large n)
+  below (suc most) n h = ⊎_elim (small n) (λ more. large n more (below most (n / 10) (omega arith))) (cases_lt n 10)
 
   pub by-tenths : (n : ℕ) → P n
   by-tenths n = below (suc n) n (omega arith)
@@ -52,7 +50,7 @@ digits-bound (suc most) (suc more) n h g =
     (λ large.
     let front : digits_in most (n / 10) ≡ digits_in more (n / 10) = digits-bound most more (n / 10) (omega arith) (omega arith) in
     digits_more most n large ∙ ap (λ s. s ++ last_digit n) front ∙ sym (digits_more more n large))
-    (small-or-large n)
+    (cases_lt n 10)
 
 pub decimal_digit : (n : ℕ) → n < 10 → decimal n ≡ (48 + n) ∷ []
 unfolding decimal
@@ -142,9 +140,6 @@ pub record Valued (s : List ℕ) (n i : ℕ) : Type 0 where
   pub short : length s ≤ word_digits
   pub within : i ≤ length s
   pub rest : value s ≡ value_after n (drop i s)
-
-pub valued-start : {s : List ℕ} → length s ≤ word_digits → every digit s ≡ true → Valued s 0 0
-valued-start short p = record { digits = p; short = short; within = omega arith; rest = refl }
 
 module _ {s : List ℕ} {n i : ℕ} (so_far : Valued s n i) where
   pub valued-all : length s ≤ i → n ≡ value s

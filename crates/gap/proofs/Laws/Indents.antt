@@ -2,14 +2,14 @@
 use mathlib.Core.Path.{◌≡◌, refl, ap, ◌∙◌}
 use mathlib.Core.Bool.{Bool, true, false, ◌&&◌, cond}
 use mathlib.Core.List.{List, [], ◌∷◌, ◌++◌}
-use Prim.Native.Nat.{ℕ, zero, suc, ◌+◌, ◌-◌, ◌≤◌, ◌<◌}
+use Prim.Native.Nat.{ℕ, zero, suc, ◌+◌, ◌-◌, ◌≤◌}
 use native.Mathlib.Nat.{zero-add}
-use native.Mathlib.Numerals.{add-one}
 use native.Mathlib.Omega.{arith}
 use lib.Dec.{eqb}
-use lib.ListN.{length, drop, get_or, replicate, length-append, length-drop, length-replicate, drop_of_length-le}
-use lib.Seq.{drop-cons, drop-append-add}
-use borrow.Author.Tests.{eq-eqb, ne_eqb}
+use Rattle.std.specs.List.{prefix_len}
+use Rattle.std.proofs.lemmas.List.Folds.{length-prefix_len}
+use lib.ListN.{length, take, drop, replicate, length-append, length-drop, length-replicate}
+use lib.Seq.{drop-append-add}
 use Rattle.gap.specs.Rules.Sequence.{every}
 use Rattle.gap.specs.Rules.Lines.{newline, newlines, since_after, since}
 use Rattle.gap.specs.Rules.Indents.{space, spaces, leading, current_line, indent}
@@ -18,33 +18,14 @@ use Rattle.gap.proofs.Laws.Tests.{clash}
 use Rattle.gap.proofs.Laws.Lines.{since-append, since-fits, since-unbroken}
 use Rattle.gap.proofs.Laws.Runs.{tail_of, tail-lent}
 
--- The first n bytes are spaces, so that those behind them decide.
-pub record Leads (s : List ℕ) (n : ℕ) : Type 0 where
-  pub within : n ≤ length s
-  pub rest : leading s ≡ n + leading (drop n s)
+-- They are as many as code takes while they last.
+leading-prefix : (s : List ℕ) → prefix_len (λ b. eqb b space) s ≡ leading s
+unfolding leading
+leading-prefix [] = refl
+leading-prefix (b ∷ s) = ap (λ n. cond (eqb b space) n 0) (omega (arith, leading-prefix s))
 
-module _ (s : List ℕ) where
-  pub leads-start : Leads s 0
-  leads-start = record { within = omega arith; rest = omega arith }
-
-  module _ (n : ℕ) (so_far : Leads s n) where
-    pub leads-more : n < length s → get_or s n 0 ≡ space → Leads s (n + 1)
-    unfolding leading
-    leads-more more e =
-        let next : leading (drop n s) ≡ 1 + leading (drop (n + 1) s) = rw (drop-cons s n 0 more, eq-eqb (get_or s n 0) space e, add-one) (omega arith) in
-        record { within = omega arith; rest = omega (arith, so_far.rest, next) }
-
-    pub leads-until : n < length s → (get_or s n 0 ≡ space → ⊥) → n ≡ leading s
-    unfolding leading
-    leads-until more other =
-        let over : leading (drop n s) ≡ 0 = rw (drop-cons s n 0 more, ne_eqb (get_or s n 0) space other) in
-        omega (arith, so_far.rest, over)
-
-    pub leads-all : length s ≤ n → n ≡ leading s
-    unfolding leading
-    leads-all end =
-        let over : leading (drop n s) ≡ 0 = ap leading (drop_of_length-le s end) in
-        omega (arith, so_far.rest, over)
+pub leading-taken : (s : List ℕ) → length (take (prefix_len (λ b. eqb b space) s) s) ≡ leading s
+leading-taken s = length-prefix_len _ s ∙ leading-prefix s
 
 -- ---- Spaces
 

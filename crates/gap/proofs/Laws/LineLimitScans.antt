@@ -7,17 +7,14 @@ use Prim.Native.Nat.{ℕ, suc, ◌+◌, ◌-◌, ◌≤◌, ◌<◌}
 use native.Mathlib.Omega.{arith}
 use lib.Dec.{eqb, ltb}
 use lib.ListN.{length, take, drop, length-append, length-drop, take-append-drop}
-use lib.Seq.{drop-drop, drop-append-add, length-take-le}
+use lib.Seq.{drop-append-add, length-take-le}
 use borrow.Author.Tests.{ltb-true, ltb-false, leb-true, eqb-true}
+use Rattle.std.proofs.lemmas.Bool.{false_from_ne_true}
 use Rattle.gap.specs.Rules.Lines.{newline, newlines, since_after}
 use Rattle.gap.specs.Wording.LinesAfter.{lines_fit_after}
 use Rattle.gap.proofs.Laws.Tests.{decided, and_left}
 use Rattle.gap.proofs.Laws.Lines.{since-fits, since-unbroken}
 use Rattle.gap.proofs.Laws.LineLimits.{after-append, after-short, after-ended, after-since, carried-fits}
-
-refuted : (t : Bool) → (t ≡ true → ⊥) → false ≡ t
-refuted true never = absurd (never refl)
-refuted false never = refl
 
 -- ---- The last newline of a text
 
@@ -66,72 +63,66 @@ since-whole n (b ∷ s) e =
 
 -- ---- The loop
 
--- The lines before place i are within the limit, and on the line that goes on there is room for so many bytes: what is left decides.
-pub record Fitting (limit n : ℕ) (s : List ℕ) (room i : ℕ) : Type 0 where
-  pub within : i ≤ length s
+-- The lines before what is left are within the limit, and on the line that goes on there is room for so many bytes: what is left decides.
+pub record Fitting (limit n : ℕ) (s : List ℕ) (room : ℕ) (left : List ℕ) : Type 0 where
+  pub within : length left ≤ length s
   pub spare : room ≤ limit
-  pub rest : lines_fit_after limit n s ≡ lines_fit_after limit (limit - room) (drop i s)
+  pub rest : lines_fit_after limit n s ≡ lines_fit_after limit (limit - room) left
 
 module _ (limit n : ℕ) (s : List ℕ) where
   pub fitting-over : limit < n → false ≡ lines_fit_after limit n s
-  fitting-over over = refuted _ (λ fits. omega (arith, leb-true n limit (carried-fits limit n s fits)))
+  fitting-over over = sym (false_from_ne_true _ (λ fits. omega (arith, leb-true n limit (carried-fits limit n s fits))))
 
-  pub fitting-start : n ≤ limit → {room : ℕ} → room ≡ limit - n → Fitting limit n s room 0
-  fitting-start fits {room} e =
-      let before : n ≡ limit - room = omega arith in
-      record { within = omega arith; spare = omega arith; rest = ap (λ m. lines_fit_after limit m s) before }
+  module _ {room : ℕ} {left : List ℕ} (so_far : Fitting limit n s room left) where
+    pub fitting-all : length left ≤ room → true ≡ lines_fit_after limit n s
+    fitting-all short = sym (so_far.rest ∙ after-short limit (limit - room) left (omega (arith, so_far.spare)))
 
-  module _ {room i : ℕ} (so_far : Fitting limit n s room i) where
-    pub fitting-all : length s - i ≤ room → true ≡ lines_fit_after limit n s
-    fitting-all short =
-        sym (so_far.rest ∙ after-short limit (limit - room) (drop i s) (omega (arith, so_far.spare, so_far.within, length-drop i s)))
+    -- The stretch up to the place that the line does not reach if it fits, and the bytes since its last newline.
+    module _ {last : ℕ} (inside : room < length left) (found : last ≡ since_after 0 (take (room + 1) left)) where
+      abbrev stretch : List ℕ
+      stretch = take (room + 1) left
 
-    -- The stretch from i up to the place that the line does not reach if it fits, and the bytes since its last newline.
-    module _ {end last : ℕ} (ends : end ≡ i + room + 1) (inside : end ≤ length s) (found : last ≡ since_after 0 (take (end - i) (drop i s))) where
-      long : length (take (end - i) (drop i s)) ≡ room + 1
-      long = length-take-le (end - i) (drop i s) (omega (arith, length-drop i s)) ∙ omega arith
-
-      pub last_fits : last ≤ room + 1
-      last_fits = omega (arith, found, since-fits 0 (take (end - i) (drop i s)), long)
+      long : length stretch ≡ room + 1
+      long = length-take-le (room + 1) left (omega arith)
 
       pub fitting-none : room < last → false ≡ lines_fit_after limit n s
-      fitting-none none = refuted _ never
+      fitting-none none = sym (false_from_ne_true _ never)
         where
           never : lines_fit_after limit n s ≡ true → ⊥
           never fits =
-              let all : since_after 0 (take (end - i) (drop i s)) ≡ 0 + length (take (end - i) (drop i s)) = omega (arith, last_fits, long, found) in
-              let carried = since-unbroken (limit - room) _ (since-whole 0 (take (end - i) (drop i s)) all) in
-              let cut : lines_fit_after limit (limit - room) (take (end - i) (drop i s) ++ drop (end - i) (drop i s)) ≡ true =
-              ap (lines_fit_after limit (limit - room)) (take-append-drop (end - i) (drop i s)) ∙ sym so_far.rest ∙ fits in
-              let front : lines_fit_after limit (limit - room) (take (end - i) (drop i s)) ≡ true =
-              and_left _ _ (sym (after-append limit (limit - room) (take (end - i) (drop i s)) _) ∙ cut) in
-              omega (arith, carried, after-since limit (limit - room) (take (end - i) (drop i s)) front, long, so_far.spare)
+              let all : since_after 0 stretch ≡ 0 + length stretch = omega (arith, since-fits 0 stretch, long, found) in
+              let carried = since-unbroken (limit - room) _ (since-whole 0 stretch all) in
+              let cut : lines_fit_after limit (limit - room) (stretch ++ drop (room + 1) left) ≡ true =
+              ap (lines_fit_after limit (limit - room)) (take-append-drop (room + 1) left) ∙ sym so_far.rest ∙ fits in
+              let front : lines_fit_after limit (limit - room) stretch ≡ true =
+              and_left _ _ (sym (after-append limit (limit - room) stretch _) ∙ cut) in
+              omega (arith, carried, after-since limit (limit - room) stretch front, long, so_far.spare)
 
-      pub fitting-more : last ≤ room → Fitting limit n s limit (end - last)
-      fitting-more some = onward (since-broken 0 (take (end - i) (drop i s)) (omega (arith, found, long)))
+      pub fitting-more : last ≤ room → {next : List ℕ} → next ≡ drop (room + 1 - last) left → Fitting limit n s limit next
+      fitting-more some {next} lent = onward (since-broken 0 stretch (omega (arith, found, long)))
         where
-          onward : Broken (take (end - i) (drop i s)) (since_after 0 (take (end - i) (drop i s))) → Fitting limit n s limit (end - last)
+          onward : Broken stretch (since_after 0 stretch) → Fitting limit n s limit next
           onward broken =
               let front = broken.front in
               let m = limit - room in
-              let left = broken.behind ++ drop (end - i) (drop i s) in
+              let behind = broken.behind ++ drop (room + 1) left in
               let size : length front + suc (length broken.behind) ≡ room + 1 =
               sym (length-append front (newline ∷ broken.behind)) ∙ sym (ap length broken.cut) ∙ long in
-              let cut : drop i s ≡ front ++ (newline ∷ left) =
-              sym (take-append-drop (end - i) (drop i s))
-              ∙ ap (λ t. t ++ drop (end - i) (drop i s)) broken.cut
-              ∙ append_assoc front (newline ∷ broken.behind) (drop (end - i) (drop i s)) in
-              let place : i + (length front + 1) ≡ end - last = omega (arith, size, broken.last, found) in
-              let next : drop (end - last) s ≡ left =
-              ap (λ k. drop k s) (sym place) ∙ rw (← drop-drop) (ap (drop (length front + 1)) cut ∙ drop-append-add front (newline ∷ left) 1) in
+              let cut : left ≡ front ++ (newline ∷ behind) =
+              sym (take-append-drop (room + 1) left)
+              ∙ ap (λ t. t ++ drop (room + 1) left) broken.cut
+              ∙ append_assoc front (newline ∷ broken.behind) (drop (room + 1) left) in
+              let place : length front + 1 ≡ room + 1 - last = omega (arith, size, broken.last, found) in
+              let rest : next ≡ behind =
+              lent ∙ ap (λ k. drop k left) (sym place) ∙ ap (drop (length front + 1)) cut ∙ drop-append-add front (newline ∷ behind) 1 in
               let none : 0 ≡ limit - limit = omega arith in
               let within-front : m + length front ≤ limit = omega (arith, size, so_far.spare) in
               record {
-                within = omega arith;
+                within = omega (arith, so_far.within, ap length lent, length-drop (room + 1 - last) left);
                 spare = omega arith;
                 rest =
                     so_far.rest
                     ∙ ap (lines_fit_after limit m) cut
-                    ∙ after-ended limit m front left within-front
-                    ∙ ap₂ (lines_fit_after limit) none (sym next);
+                    ∙ after-ended limit m front behind within-front
+                    ∙ ap₂ (lines_fit_after limit) none (sym rest);
               }

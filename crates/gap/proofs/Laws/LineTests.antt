@@ -1,11 +1,11 @@
 -- The tests for longer lines as code runs them, part by part: of two runs put into a text, and of the document in a gap store.
 use mathlib.Core.Path.{◌≡◌, refl, sym, ap, ap₂, ◌∙◌}
-use mathlib.Core.Bool.{Bool, true, false, not, ◌&&◌}
+use mathlib.Core.Bool.{Bool, true, false, ◌&&◌}
 use mathlib.Core.List.{List, ◌++◌}
 use Prim.Native.Nat.{ℕ, ◌+◌, ◌-◌, ◌≤◌}
 use lib.Dec.{leb}
 use lib.ListN.{length, take, drop}
-use borrow.Author.Tests.{not-true, not-false}
+use Rattle.std.proofs.lemmas.Bool.{and_left}
 use Rattle.gap.specs.Rules.Doc.{content}
 use Rattle.gap.specs.Rules.Layout.{ungap, sound_gap}
 use Rattle.gap.specs.Rules.Lines.{since_after, since}
@@ -16,11 +16,8 @@ use Rattle.gap.proofs.Laws.Runs.{tail_of, tail-lent}
 use Rattle.gap.proofs.Laws.Layout.{is-gap}
 use Rattle.gap.proofs.Laws.LineLimits.{after_nothing, fit_append, fit-runs}
 
-fails-here : (ok rest : Bool) → not ok ≡ true → false ≡ (ok && rest)
-fails-here ok rest fails = sym (ap (λ t. t && rest) (not-true ok fails))
-
-passes-here : (ok rest : Bool) → not ok ≡ false → rest ≡ (ok && rest)
-passes-here ok rest passes = sym (ap (λ t. t && rest) (not-false ok passes))
+passes-here : (ok rest : Bool) → ok ≡ true → rest ≡ (ok && rest)
+passes-here ok rest passes = sym (ap (λ t. t && rest) passes)
 
 -- Each run is tested with what the line before it has come to; the line behind them is tested last.
 module _ (limit : ℕ) (front x y behind : List ℕ) (fits : (lines_fit limit front ≡ true) × (lines_fit limit behind ≡ true)) where
@@ -32,27 +29,24 @@ module _ (limit : ℕ) (front x y behind : List ℕ) (fits : (lines_fit limit fr
       rw (tested, e, tested-y, q, tested-x, p) (sym (fit-runs limit front x y behind fits.0 fits.1))
 
   module _ {at_x : ℕ} {ok-x : Bool} (p : at_x ≡ since front) (tested-x : ok-x ≡ lines_fit_after limit at_x x) where
-    pub runs-first : not ok-x ≡ true → false ≡ lines_fit limit (front ++ (x ++ (y ++ behind)))
-    runs-first fails = fails-here ok-x _ fails ∙ runs_as p tested-x refl refl refl refl
+    pub runs-first : ok-x ≡ false → false ≡ lines_fit limit (front ++ (x ++ (y ++ behind)))
+    runs-first fails = sym (and_left ok-x _ fails) ∙ runs_as p tested-x refl refl refl refl
 
-    module _ (passes-x : not ok-x ≡ false) {at_y : ℕ} {ok-y : Bool} (q : at_y ≡ since_after at_x x) (tested-y : ok-y ≡ lines_fit_after limit at_y y) where
-      pub runs-second : not ok-y ≡ true → false ≡ lines_fit limit (front ++ (x ++ (y ++ behind)))
-      runs-second fails = fails-here ok-y _ fails ∙ passes-here ok-x _ passes-x ∙ runs_as p tested-x q tested-y refl refl
+    module _ (passes-x : ok-x ≡ true) {at_y : ℕ} {ok-y : Bool} (q : at_y ≡ since_after at_x x) (tested-y : ok-y ≡ lines_fit_after limit at_y y) where
+      pub runs-second : ok-y ≡ false → false ≡ lines_fit limit (front ++ (x ++ (y ++ behind)))
+      runs-second fails = sym (and_left ok-y _ fails) ∙ passes-here ok-x _ passes-x ∙ runs_as p tested-x q tested-y refl refl
 
-      pub runs_last : not ok-y ≡ false → {at : ℕ} {ok : Bool} → at ≡ since_after at_y y → ok ≡ leb (at + length (line_of behind)) limit
+      pub runs_last : ok-y ≡ true → {at : ℕ} {ok : Bool} → at ≡ since_after at_y y → ok ≡ leb (at + length (line_of behind)) limit
           → ok ≡ lines_fit limit (front ++ (x ++ (y ++ behind)))
       runs_last passes e tested = passes-here ok-y _ passes ∙ passes-here ok-x _ passes-x ∙ runs_as p tested-x q tested-y e tested
 
 -- The lengths of a store that has passed its test fit.
-pub document-fits : (l r : ℕ) (s : List ℕ) {sound : Bool} → sound ≡ sound_gap l r s → not sound ≡ false → l + r ≤ length s
-document-fits l r s {sound} tested passes = (is-gap l r s (sym tested ∙ not-false sound passes)).fits
+pub document-fits : (l r : ℕ) (s : List ℕ) {sound : Bool} → sound ≡ sound_gap l r s → sound ≡ true → l + r ≤ length s
+document-fits l r s {sound} tested passes = (is-gap l r s (sym tested ∙ passes)).fits
 
--- A store that is not sound is refused before its lines are looked at; then come the text at the front and the one at the back.
+-- The lines of a sound store are looked at in the text at the front, and then in the one at the back.
 module _ (limit l r : ℕ) (s : List ℕ) {sound : Bool} (tested : sound ≡ sound_gap l r s) where
-  pub document-unsound : not sound ≡ true → false ≡ (sound_gap l r s && lines_fit limit (content (ungap l r s)))
-  document-unsound fails = fails-here sound _ fails ∙ ap (λ t. t && lines_fit limit (content (ungap l r s))) tested
-
-  module _ (passes : not sound ≡ false) {ok-l : Bool} (tested-l : ok-l ≡ lines_fit_after limit 0 (take l s)) where
+  module _ (passes : sound ≡ true) {ok-l : Bool} (tested-l : ok-l ≡ lines_fit_after limit 0 (take l s)) where
     whole : {ok-r : Bool} → ok-r ≡ lines_fit_after limit (since (take l s)) (drop (length s - r) s)
         → (sound && (ok-l && ok-r)) ≡ (sound_gap l r s && lines_fit limit (content (ungap l r s)))
     unfolding ungap
@@ -60,10 +54,10 @@ module _ (limit l r : ℕ) (s : List ℕ) {sound : Bool} (tested : sound ≡ sou
         ap₂ ◌&&◌ tested
         (ap₂ ◌&&◌ (tested-l ∙ after_nothing limit (take l s)) tested-r ∙ sym (fit_append limit (take l s) (drop (length s - r) s)))
 
-    pub document-left : not ok-l ≡ true → false ≡ (sound_gap l r s && lines_fit limit (content (ungap l r s)))
-    document-left fails = fails-here ok-l _ fails ∙ passes-here sound _ passes ∙ whole refl
+    pub document-left : ok-l ≡ false → false ≡ (sound_gap l r s && lines_fit limit (content (ungap l r s)))
+    document-left fails = sym (and_left ok-l _ fails) ∙ passes-here sound _ passes ∙ whole refl
 
-    pub document-right : not ok-l ≡ false → {at start : ℕ} {ok-r : Bool} → at ≡ since (take l s) → start ≡ length s - r
+    pub document-right : ok-l ≡ true → {at start : ℕ} {ok-r : Bool} → at ≡ since (take l s) → start ≡ length s - r
         → ok-r ≡ lines_fit_after limit at (tail_of start s)
         → ok-r ≡ (sound_gap l r s && lines_fit limit (content (ungap l r s)))
     document-right passes-l {at} {start} e place tested-r =

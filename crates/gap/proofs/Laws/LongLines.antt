@@ -2,7 +2,7 @@
 use Rattle.std.proofs.Common.{Some, None}
 use mathlib.Core.Path.{◌≡◌, refl, sym, ap, ◌∙◌}
 use mathlib.Core.Logic.{⊎_elim}
-use mathlib.Core.Bool.{Bool, true, false, not, ◌&&◌, ◌||◌, cond, and-false}
+use mathlib.Core.Bool.{Bool, true, false, not, ◌&&◌, cond}
 use mathlib.Core.List.{List, [], ◌∷◌}
 use Prim.Native.Nat.{ℕ, suc, ◌+◌, ◌-◌, ◌≤◌, ◌<◌}
 use native.Mathlib.Nat.{eq-or-lt_of_le}
@@ -11,6 +11,7 @@ use lib.Dec.{eqb, leb, ltb}
 use lib.ListN.{length, drop, get_or, drop_of_length-le}
 use lib.Seq.{get_or-take, get_or-drop}
 use borrow.Author.Tests.{ltb-true, ltb-false, lt-ltb, le-ltb, le-leb, eq-eqb, ne_eqb, eqb-true, not-true}
+use Rattle.std.proofs.lemmas.Bool.{and_right, or_from}
 use Rattle.gap.specs.Rules.Sequence.{part}
 use Rattle.gap.specs.Rules.Nearest.{nearest}
 use Rattle.gap.specs.Rules.Lines.{newline}
@@ -20,7 +21,7 @@ use Rattle.gap.specs.Wording.LinesAfter.{lines_fit_after}
 use Rattle.gap.proofs.Laws.Tests.{decided, and_both, or_right}
 use Rattle.gap.proofs.Laws.Sequence.{every-at, length_part}
 use Rattle.gap.proofs.Laws.Nearest.{none-nowhere, nowhere-none}
-use Rattle.gap.proofs.Laws.Scans.{Scan, scan-start, scan-found, scan-none}
+use Rattle.gap.proofs.Laws.Scans.{Scan, scan-found, scan-none}
 use Rattle.gap.proofs.Laws.RowScans.{row-none, row_last}
 use Rattle.gap.proofs.Laws.LinePlaces.{line-starts, ends-unbroken, ends-stop}
 use Rattle.gap.proofs.Laws.LineLimits.{after_nothing, after_none, after-byte, fit_line, fit-drop}
@@ -28,12 +29,6 @@ use Rattle.gap.proofs.Laws.LineLimits.{after_nothing, after_none, after-byte, fi
 -- A longer line begins at a place.
 abbrev pub longer_at : ℕ → List ℕ → ℕ → Bool
 longer_at limit s at = begins_line s at && ltb limit (length (line_at s at))
-
-not-both : (a : Bool) {b : Bool} → b ≡ false → (a && b) ≡ false
-not-both a e = ap (λ t. a && t) e ∙ and-false a
-
-not-either : {a b : Bool} → a ≡ false → b ≡ false → (a || b) ≡ false
-not-either {a} {b} p q = ap (λ t. t || b) p ∙ q
 
 other-fails : (a b : Bool) → (a && b) ≡ false → a ≡ true → b ≡ false
 other-fails a b e p = sym (ap (λ t. t && b) p) ∙ e
@@ -45,7 +40,7 @@ module _ (limit : ℕ) where
   unfolding long_line line_at
   fit-nowhere s fits =
       none-nowhere _ (length s) 0
-      (λ j low high. not-both (begins_line s j) (le-ltb limit (length (line_of (drop j s))) (fit_line limit (drop j s) (fit-drop limit j s fits))))
+      (λ j low high. and_right (begins_line s j) _ (le-ltb limit (length (line_of (drop j s))) (fit_line limit (drop j s) (fit-drop limit j s fits))))
 
   -- The same, as code has tested it.
   pub lines-fitting : (s : List ℕ) {fits : Bool} → fits ≡ lines_fit_after limit 0 s → fits ≡ true → None ≡ long_line limit s
@@ -100,9 +95,6 @@ module _ (limit : ℕ) where
     pub begins : begins_line s i ≡ true
 
   module _ (s : List ℕ) where
-    pub lines_start : LinesPassed s 0
-    lines_start = record { scan = scan-start _ _ _; begins = refl }
-
     module _ {i : ℕ} (so_far : LinesPassed s i) where
       pub lines_none : length s ≤ i → None ≡ long_line limit s
       unfolding long_line
@@ -132,11 +124,11 @@ module _ (limit : ℕ) where
               get_or-take (end - i) (drop i s) k 0 (omega arith) ∙ get_or-drop i s k 0 ∙ ap (λ m. get_or s m 0) place in
               let other : not (eqb (get_or s (j - 1) 0) newline) ≡ true =
               ap (λ b. not (eqb b newline)) (sym byte) ∙ every-at (λ b. not (eqb b newline)) (part i (end - i) s) k unbroken.bytes fits in
-              not-either (ne_eqb j 0 (λ e. omega arith)) (not-true (eqb (get_or s (j - 1) 0) newline) other)
+              or_from _ _ (ne_eqb j 0 (λ e. omega arith)) (not-true (eqb (get_or s (j - 1) 0) newline) other)
 
           none-longer : (j : ℕ) → i ≤ j → j ≤ end → longer_at limit s j ≡ false
           none-longer j low high =
-              ⊎_elim (λ e. ap (longer_at limit s) (sym e) ∙ not-both (begins_line s i) (le-ltb limit (length (line_at s i)) (omega (arith, size))))
+              ⊎_elim (λ e. ap (longer_at limit s) (sym e) ∙ and_right (begins_line s i) _ (le-ltb limit (length (line_at s i)) (omega (arith, size))))
               (λ above. ap (λ t. t && ltb limit (length (line_at s j))) (within-line j above high))
               (eq-or-lt_of_le low)
 

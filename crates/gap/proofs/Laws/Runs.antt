@@ -5,9 +5,9 @@ use Prim.Native.Nat.{ℕ, ◌+◌, ◌-◌, ◌≤◌, ◌<◌}
 use native.Mathlib.Numerals.{add-one}
 use native.Mathlib.Omega.{arith}
 use lib.ListN.{length, take, drop, set, get_or, length-set, length-append, length-drop, drop_of_length-le, take-append-drop}
-use lib.ListN.{replicate, length-replicate, get_or-replicate, replicate-append-replicate}
+use lib.ListN.{replicate, length-replicate, replicate-append-replicate}
 use lib.Seq.{length-take-le, take_all, take_at, take-suc, take-length, take-append_seam}
-use lib.Seq.{drop_at, drop-cons, drop-length, drop-drop, append_snoc, set_at, set_split}
+use lib.Seq.{drop_at, drop-cons, drop-drop, append_snoc, set_at, set_split}
 use borrow.Rule.Slice.PartMut.{mid_of, put_mid}
 use Rattle.gap.specs.Rules.Sequence.{part, patch, zeros}
 use Rattle.gap.proofs.Laws.Sequence.{length_part, length-zeros}
@@ -42,25 +42,6 @@ copied_all {run} {old} {s} {i} h done =
 pub zeros-both : (n m : ℕ) → zeros n ++ zeros m ≡ zeros (n + m)
 unfolding zeros
 zeros-both n m = replicate-append-replicate n m 0
-
--- Filling a store with b is copying as many of that byte to its front.
-abbrev pub FilledWith : ℕ → List ℕ → ℕ → List ℕ → Type 0
-FilledWith b old i s = Copied (replicate (length old) b) old i s
-
-module _ (b : ℕ) where
-  long : (n : ℕ) → length (replicate n b) ≡ n
-  long n = length-replicate n b
-
-  pub filled_none : (old : List ℕ) → FilledWith b old 0 old
-  filled_none old = copied_none (replicate (length old) b) old (rw long (omega arith))
-
-  pub filled_more : {old s : List ℕ} {i : ℕ} → FilledWith b old i s → i < length s → FilledWith b old (i + 1) (set s i b)
-  filled_more {old} {s} {i} h more =
-      let inside : i < length old = omega arith in
-      copied_more h (rw long inside) (sym (get_or-replicate (length old) i b 0 inside))
-
-  pub filled-all : {old s : List ℕ} {i : ℕ} → FilledWith b old i s → length s ≤ i → s ≡ replicate (length old) b
-  filled-all {old} {s} {i} h done = copied_all h (rw long (omega arith)) ∙ rw (long, drop-length, append-nil)
 
 -- A patch in a store that is long enough keeps its length.
 pub length-patch : (a : ℕ) (run s : List ℕ) → a + length run ≤ length s → length (patch a run s) ≡ length s
@@ -122,12 +103,9 @@ module _ (a d : ℕ) (s : List ℕ) (fits : a + d ≤ length s) where
       let same : t ≡ replicate d b = e ∙ ap (λ n. replicate n b) (ap length part-lent ∙ length_part a d s fits) in
       rw same (part-back a (a + d - a) s (replicate d b) (length-replicate d b ∙ omega arith))
 
-  -- A part that a pair store holds alone, and one that was copied to the front of a block.
+  -- A part that a pair store holds alone.
   pub part_held : (n : ℕ) → mid_of a (a + d - a) s ++ zeros (n - length (mid_of a (a + d - a) s)) ≡ part a d s ++ zeros (n - d)
   part_held n = rw (part-lent, length_part a d s fits)
-
-  pub part-front : (block rest : List ℕ) → block ≡ mid_of a (a + d - a) s ++ rest → take d block ≡ part a d s
-  part-front block rest e = rw (e, part-lent) (take_at (part a d s) rest d (length_part a d s fits))
 
 -- A patch that reaches to the end of the store.
 patch-end : (a : ℕ) (run s : List ℕ) → a + length run ≡ length s → patch a run s ≡ take a s ++ run

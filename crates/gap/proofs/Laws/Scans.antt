@@ -1,18 +1,23 @@
 -- Laws of loops that go through a text byte by byte, or through numbers one by one: what is left decides.
-use Rattle.std.proofs.Common.{Some, None}
 use mathlib.Core.Path.{◌≡◌, refl, sym, ap, ◌∙◌}
 use mathlib.Core.Bool.{Bool, true, false, not, ◌&&◌, cond, and-true, and_assoc}
+use mathlib.Core.Logic.{⊎_elim}
 use mathlib.Core.List.{List}
 use Prim.Native.Nat.{ℕ, zero, suc, ◌+◌, ◌-◌, ◌≤◌, ◌<◌}
 use native.Mathlib.Numerals.{add-one}
 use native.Mathlib.Omega.{arith}
 use lib.ListN.{length, drop, get_or, drop_of_length-le}
 use lib.Seq.{drop-cons}
+use lib.Dec.{ltb}
+use borrow.Author.Tests.{ltb-true, ltb-false}
+use Rattle.std.specs.Prelude.{Option, Some, None}
+use Rattle.std.specs.List.{position_or_len}
+use Rattle.std.proofs.lemmas.List.Sums.{fails_before_first, passes_at_first}
 use Rattle.gap.specs.Rules.Sequence.{every}
 use Rattle.gap.specs.Rules.Nearest.{nearest}
-use Rattle.gap.proofs.Laws.Tests.{cond-true, cond-false}
+use Rattle.gap.proofs.Laws.Tests.{decided, cond-true, cond-false}
 use Rattle.gap.proofs.Laws.Sequence.{every-at}
-use Rattle.gap.proofs.Laws.Nearest.{none-nowhere}
+use Rattle.gap.proofs.Laws.Nearest.{least-reached, none-nowhere}
 
 -- ok tells whether the first i bytes of s pass the test, and those from i on decide the rest.
 pub record Tested (test : ℕ → Bool) (s : List ℕ) (ok : Bool) (i : ℕ) : Type 0 where
@@ -63,24 +68,32 @@ module _ (test : ℕ → Bool) (n k : ℕ) where
     unfolding nearest
     scan-none end = let none : k + n - d ≡ 0 = omega arith in sym (so_far.rest ∙ ap (λ m. nearest test m d) none)
 
--- The first byte of a text that fails a test: those before place i pass, so that the others decide.
-pub record PassedUpTo (test : ℕ → Bool) (s : List ℕ) (i : ℕ) : Type 0 where
-  pub scan : Scan (λ j. not (test (get_or s j 0))) (length s) 0 i
-
 module _ (test : ℕ → Bool) (s : List ℕ) where
-  pub passed_start : PassedUpTo test s 0
-  passed_start = record { scan = scan-start _ _ _ }
+  abbrev fails : ℕ → Bool
+  fails b = not (test b)
 
-  module _ (i : ℕ) (so_far : PassedUpTo test s i) where
-    module _ (more : i < length s) {ok : Bool} (e : ok ≡ test (get_or s i 0)) where
-      pub passed-found : not ok ≡ true → Some i ≡ nearest (λ j. not (test (get_or s j 0))) (length s) 0
-      passed-found fails = scan-found _ _ _ i so_far.scan (omega arith) (ap not (sym e) ∙ fails)
+  abbrev place : ℕ
+  place = position_or_len fails s
 
-      pub passed-more : not ok ≡ false → PassedUpTo test s (i + 1)
-      passed-more passes = record { scan = scan-more _ _ _ i so_far.scan (omega arith) (ap not (sym e) ∙ passes) }
+  -- The first byte of a text that fails a test, as `position` answers.
+  pub first-failing : {found : Option ℕ} → found ≡ cond (ltb place (length s)) (Some place) None
+      → found ≡ nearest (λ i. not (test (get_or s i 0))) (length s) 0
+  first-failing e = e ∙ ⊎_elim there nowhere (decided (ltb place (length s)))
+    where
+      there : ltb place (length s) ≡ true → cond (ltb place (length s)) (Some place) None ≡ nearest (λ i. fails (get_or s i 0)) (length s) 0
+      there inside =
+          cond-true _ _ inside
+          ∙ sym (least-reached _ (length s) 0 place (record {
+            from = omega arith;
+            within = omega (arith, ltb-true place (length s) inside);
+            passes = passes_at_first fails s 0 (ltb-true place (length s) inside);
+            before = λ j low high. fails_before_first fails s j 0 high;
+          }))
 
-    pub passed-all : length s ≤ i → None ≡ nearest (λ j. not (test (get_or s j 0))) (length s) 0
-    passed-all end = scan-none _ _ _ i so_far.scan (omega arith)
+      nowhere : ltb place (length s) ≡ false → cond (ltb place (length s)) (Some place) None ≡ nearest (λ i. fails (get_or s i 0)) (length s) 0
+      nowhere past =
+          cond-false _ _ past
+          ∙ sym (none-nowhere _ (length s) 0 (λ j low high. fails_before_first fails s j 0 (omega (arith, ltb-false place (length s) past))))
 
   -- Where every byte passes, none is the first that does not.
   pub every-nowhere : {all : Bool} → all ≡ every test s → all ≡ true → None ≡ nearest (λ i. not (test (get_or s i 0))) (length s) 0

@@ -1,4 +1,5 @@
 -- Laws of a screen that is painted from the top: the cells so far are the new screen's, and the rows so far are named.
+use Rattle.std.proofs.Common.{Some}
 use mathlib.Core.Path.{◌≡◌, refl, sym, ap, ap₂, subst₂, ◌∙◌}
 use mathlib.Core.Logic.{⊎_elim}
 use mathlib.Core.Bool.{Bool, true, false, not, ◌&&◌, ◌||◌, cond}
@@ -88,33 +89,33 @@ either-differs false b = refl
 
 -- n rows are painted, and m cells of the next one: the screen is the new one up to there, the row is marked where one of its m cells
 -- was another one, and the rows that changed among the n are named.
-pub record Reached (f : Frame) (old new : List ℕ) (n m : ℕ) (p : Sheet) : Type 0 where
+pub record Some (f : Frame) (old new : List ℕ) (n m : ℕ) (p : Sheet) : Type 0 where
   pub cells : p.screen ≡ take (n * f.w + m) new ++ drop (n * f.w + m) old
   pub mark : p.pen.changed ≡ not (same_bytes (part (n * f.w) m old) (part (n * f.w) m new))
   pub rows : Named (changed f.w old new) n p.pen.first p.pen.last
 
 module _ (f : Frame) (old new : List ℕ) where
-  pub reached-none : Reached f old new 0 0 (begun old)
+  pub reached-none : Some f old new 0 0 (begun old)
   unfolding part same_bytes
   reached-none =
       let start : 0 ≡ 0 * f.w + 0 = omega (arith, zero-mul f.w) in
       record { cells = ap (λ k. take k new ++ drop k old) start; mark = refl; rows = nothing (λ i low high. absurd (omega arith)) }
 
-  pub reached-moved : (n m y x : ℕ) (p : Sheet) → Reached f old new n m p → Reached f old new n m (moved y x p)
+  pub reached-moved : (n m y x : ℕ) (p : Sheet) → Some f old new n m p → Some f old new n m (moved y x p)
   reached-moved n m y x p so_far = record { cells = so_far.cells; mark = so_far.mark; rows = so_far.rows }
 
-  pub reached-at : {n m a b : ℕ} {p : Sheet} → n ≡ a → m ≡ b → Reached f old new n m p → Reached f old new a b p
-  reached-at {p = p} same also so_far = subst₂ (λ a b. Reached f old new a b p) same also so_far
+  pub reached-at : {n m a b : ℕ} {p : Sheet} → n ≡ a → m ≡ b → Some f old new n m p → Some f old new a b p
+  reached-at {p = p} same also so_far = subst₂ (λ a b. Some f old new a b p) same also so_far
 
   module _ (old-size : length old ≡ f.h * f.w) (new-size : length new ≡ f.h * f.w) where
-    pub reached-long : (n m : ℕ) (p : Sheet) → Reached f old new n m p → length p.screen ≡ f.h * f.w
+    pub reached-long : (n m : ℕ) (p : Sheet) → Some f old new n m p → length p.screen ≡ f.h * f.w
     reached-long n m p so_far = ap length so_far.cells ∙ simp (length-append, length-take, length-drop) (omega arith)
 
     -- The next cells are put.
     pub reached-put : (n m : ℕ) (next : List ℕ) (p : Sheet) → n * f.w + m + length next ≤ length p.screen
         → next ≡ part (n * f.w + m) (length next) new
-        → Reached f old new n m p
-        → Reached f old new n (m + length next) (put (n * f.w + m) next p)
+        → Some f old new n m p
+        → Some f old new n (m + length next) (put (n * f.w + m) next p)
     reached-put n m next p fits same so_far =
         let start = n * f.w in
         let size = length next in
@@ -134,8 +135,8 @@ module _ (f : Frame) (old new : List ℕ) where
         }
 
     -- The row is finished.
-    pub reached-row : (n : ℕ) (p : Sheet) → p.pen.y - f.r ≡ n → Reached f old new n f.w p
-        → Reached f old new (suc n) 0 (row_below f p)
+    pub reached-row : (n : ℕ) (p : Sheet) → p.pen.y - f.r ≡ n → Some f old new n f.w p
+        → Some f old new (suc n) 0 (row_below f p)
     unfolding part same_bytes
     reached-row n p here so_far =
         let down : n * f.w + f.w ≡ suc n * f.w + 0 = omega (arith, suc-mul n f.w) in
@@ -149,7 +150,7 @@ module _ (f : Frame) (old new : List ℕ) where
         }
 
     -- All rows are painted.
-    pub reached-all : (p : Sheet) → Reached f old new f.h 0 p
+    pub reached-all : (p : Sheet) → Some f old new f.h 0 p
         → (p.screen ≡ new) × (p.pen.first ≡ first_row f.h f.w old new) × (p.pen.last ≡ last_row f.h f.w old new)
     reached-all p so_far =
         let end : f.h * f.w + 0 ≡ f.h * f.w = omega arith in

@@ -1,4 +1,5 @@
 -- The painter's law: a text painted from its beginning, and all line ends below it, give the window and the named rows.
+use Rattle.std.proofs.Common.{Some}
 use mathlib.Core.Path.{◌≡◌, refl, sym, ap, ◌∙◌}
 use mathlib.Core.Logic.{⊎_elim}
 use mathlib.Core.Bool.{Bool, true, false, cond}
@@ -26,7 +27,7 @@ use Rattle.window.proofs.Laws.Paint.{letter-below, letter-higher, letter-before,
 use Rattle.window.proofs.Laws.Paint.{end_below, end-higher, end-inside}
 use Rattle.window.proofs.Laws.PaintedCells.{line_of, line-ends, line-goes-on, no-line-left, first-line-newline, first-line-letter}
 use Rattle.window.proofs.Laws.PaintedCells.{letter-cell, blanks-cells}
-use Rattle.window.proofs.Laws.PaintedRows.{Reached, reached-none, reached-moved, reached-at}
+use Rattle.window.proofs.Laws.PaintedRows.{reached-none, reached-moved, reached-at}
 use Rattle.window.proofs.Laws.PaintedRows.{reached-long, reached-put, reached-row, reached-all}
 
 -- How many cells of its row the pen has painted: none outside the window.
@@ -51,7 +52,7 @@ shown-start f pen start = go (above f pen) (over f pen)
 -- The pen is in the window or above it, or just below it, and the cells up to it are painted.
 record Painted (f : Frame) (d : Doc) (old : List ℕ) (p : Sheet) : Type 0 where
   within : p.pen.y ≤ f.r + f.h
-  so_far : Reached f old (window f d) (p.pen.y - f.r) (shown f p.pen) p
+  so_far : Some f old (window f d) (p.pen.y - f.r) (shown f p.pen) p
 
 module _ (f : Frame) (d : Doc) (old : List ℕ) (size : length old ≡ f.h * f.w) where
   along-painted : (p : Sheet) → Painted f d old p → shown f p.pen ≡ shown f (along 1 p).pen → Painted f d old (along 1 p)

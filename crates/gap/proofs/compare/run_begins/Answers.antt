@@ -1,9 +1,9 @@
--- `compare::run_begins` meets its contract: as many bytes as the pattern has are compared with it, if there are as many.
-use Rattle.gap.proofs.Laws.Compared.{run_short, run-same}
+-- `compare::run_begins` meets its contract: what stands from the place on is tested.
+use mathlib.Core.Path.{ap, ◌∙◌}
+use Rattle.gap.specs.Rules.Sequence.{begins}
+use Rattle.gap.proofs.Laws.Runs.{tail-lent}
+use Rattle.gap.proofs.Laws.Compared.{starts_begins}
 use Rattle.gap.proofs.compare.run_begins.Goals as goal
 
-pub returns-then-t-at : goal.returns-then-t-at
-returns-then-t-at c = run_short _ c.args.t.now c.args.at c.if-t-at.true
-
 pub returns : goal.returns
-returns c = run-same _ _ _ c.same_run.ensures
+returns c = c.starts_with.ensures.value ∙ starts_begins _ _ ∙ ap (begins c.args.pattern.now) (tail-lent _ c.args.t.now)

@@ -1,22 +1,17 @@
--- `fields::field_of` meets its contract: a line that begins with the word is as long, and what stands behind the word is lent.
-use Rattle.std.proofs.Common.{None}
+-- `fields::field_of` meets its contract: what stands behind the word is read, if the line begins with the word.
+use Rattle.std.proofs.Common.{None, ◌∙◌}
 use Rattle.gap.specs.Rules.Decimal.{number_of}
 use Rattle.gap.specs.Rules.Fields.{field_of}
-use Rattle.gap.proofs.Laws.Fields.{word_fits, word_none, word_read}
-use mathlib.Core.Path.{ap}
-use mathlib.Core.Bool.{not}
+use Rattle.gap.proofs.Laws.Fields.{prefix-none, prefix_read}
 use Rattle.gap.proofs.fields.field_of.Goals as goal
 
-pub returns-then-not-begins_with : goal.returns-then-not-begins_with
+pub returns-in_err-strip_prefix : goal.returns-in_err-strip_prefix
 unfolding field_of
-returns-then-not-begins_with c = word_none _ _ c.begins_with.ensures (number_of _) None (ap not c.if-not-begins_with.true)
-
-pub slice_bounds-number_of-count : goal.slice_bounds-number_of-count
-slice_bounds-number_of-count c = word_fits _ _ c.begins_with.ensures (ap not c.if-not-begins_with.false)
-
-pub slice_bounds-number_of-start : goal.slice_bounds-number_of-start
-slice_bounds-number_of-start c = word_fits _ _ c.begins_with.ensures (ap not c.if-not-begins_with.false)
+returns-in_err-strip_prefix c =
+    c.from_residual.ensures ∙ prefix-none c.args.word.now c.args.line.now (number_of _) None (c.in_err-strip_prefix.ensures.cases)
 
 pub returns : goal.returns
 unfolding field_of
-returns c = word_read _ _ c.begins_with.ensures (number_of _) None (ap not c.if-not-begins_with.false) c.number_of.ensures
+returns c =
+    prefix_read c.args.word.now c.args.line.now (number_of _) None c.in_ok-strip_prefix.ensures.cases.0 c.in_ok-strip_prefix.ensures.cases.1
+    c.number_of.ensures

@@ -1,12 +1,7 @@
 -- `fields::line_number` meets its contract: the newlines before the line are counted, and there are no more of them than bytes.
-use mathlib.Core.Path.{sym}
 use native.Mathlib.Omega.{arith}
-use lib.Seq.{length-take-le}
 use Rattle.gap.proofs.Laws.LinePlaces.{lines_fit_lem, line-numbered}
 use Rattle.gap.proofs.fields.line_number.Goals as goal
-
-pub slice_bounds-count_newlines-end : goal.slice_bounds-count_newlines-end
-slice_bounds-count_newlines-end c = sym (length-take-le _ _ c.requires)
 
 pub overflow_add-result : goal.overflow_add-result
 overflow_add-result c = omega (arith, lines_fit_lem c.args.s.now c.args.at c.count_newlines.ensures)

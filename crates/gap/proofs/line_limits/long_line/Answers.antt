@@ -1,14 +1,11 @@
 -- `long_line` meets its contract: where the lines fit there is none, and else no longer line begins before place i, where a line begins.
 use native.Mathlib.Omega.{arith}
 use Rattle.gap.proofs.Laws.LinePlaces.{line-starts}
-use Rattle.gap.proofs.Laws.LongLines.{lines-fitting, lines_start, lines-found, lines_more, lines-last, lines_none}
+use Rattle.gap.proofs.Laws.LongLines.{lines-fitting, lines-found, lines_more, lines-last, lines_none}
 use Rattle.gap.proofs.line_limits.long_line.Goals as goal
 
 pub returns-then-lines_fit : goal.returns-then-lines_fit
 returns-then-lines_fit c = lines-fitting _ _ c.lines_fit.ensures c.if-lines_fit.true
-
-pub loop-i-init : goal.loop-i-init
-loop-i-init c = lines_start _ _
 
 pub overflow_sub-end : goal.overflow_sub-end
 overflow_sub-end c = line-starts _ _ c.end_at-end.ensures

@@ -1,17 +1,19 @@
--- `lines::end_at` meets its contract: there is no newline from place `at` up to the one reached, so that the byte there decides.
+-- `lines::end_at` meets its contract: there is no newline from place `at` up to where the search begins, and none before the first one.
 use native.Mathlib.Omega.{arith}
-use Rattle.gap.proofs.Laws.LineScans.{unbroken-byte, unbroken-both}
+use Rattle.gap.proofs.Laws.Runs.{tail-lent}
+use Rattle.gap.proofs.Laws.LineScans.{unbroken-until, unbroken-rest, newline-behind}
 use Rattle.gap.proofs.Laws.LinePlaces.{unbroken-ends}
 use Rattle.gap.proofs.lines.end_at.Goals as goal
 
-pub loop-end-init : goal.loop-end-init
-loop-end-init c = c.front_without-end.ensures
+pub returns-in-Some : goal.returns-in-Some
+returns-in-Some c =
+    let lent = tail-lent c.front_without-start.result c.args.s.now in
+    unbroken-ends _ _
+    (unbroken-until c.front_without-start.ensures lent c.in-Some.i (omega (arith, c.in-Some.ensures.inside)) c.in-Some.ensures.none_before)
+    (λ inside. newline-behind c.front_without-start.ensures lent c.in-Some.i c.in-Some.ensures.newline)
 
-pub returns-then-s-end-eq10 : goal.returns-then-s-end-eq10
-returns-then-s-end-eq10 c = unbroken-ends _ _ c.loop-end.invariant (λ _. c.if-s-end-eq10.true)
-
-pub loop-end-preserved : goal.loop-end-preserved
-loop-end-preserved c = unbroken-both c.loop-end.invariant (unbroken-byte (omega arith) (omega arith) c.if-s-end-eq10.false)
-
-pub returns : goal.returns
-returns c = unbroken-ends _ _ c.loop-end.invariant (λ h. absurd (omega arith))
+pub returns-in-None : goal.returns-in-None
+returns-in-None c =
+    unbroken-ends _ _
+    (unbroken-rest c.front_without-start.ensures (tail-lent c.front_without-start.result c.args.s.now) c.in-None.ensures.none)
+    (λ inside. absurd (omega arith))

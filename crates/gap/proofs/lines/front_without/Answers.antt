@@ -1,18 +1,13 @@
 -- `lines::front_without` meets its contract: there is no newline from place `at` up to place i, and each block without one comes behind.
-use native.Mathlib.Omega.{arith}
-use Rattle.gap.proofs.Laws.LineScans.{unbroken-none, unbroken-block, unbroken-both}
+use Rattle.gap.proofs.Laws.Runs.{tail-lent}
+use Rattle.gap.proofs.Laws.LineScans.{onward_start, onward_more}
 use Rattle.gap.proofs.lines.front_without.Goals as goal
 
-pub loop-i-init : goal.loop-i-init
-loop-i-init c = unbroken-none c.requires
+pub loop-block-init : goal.loop-block-init
+loop-block-init c =
+    rw (c.into_iter-block-iterator.ensures.into_iter_gives, c.chunks_exact-block-items.ensures.rest)
+    (onward_start c.requires (tail-lent _ c.args.s.now))
 
-pub returns-then-has_newline : goal.returns-then-has_newline
-returns-then-has_newline c = c.loop-i.invariant
-
-pub loop-i-preserved : goal.loop-i-preserved
-loop-i-preserved c =
-    unbroken-both c.loop-i.invariant
-    (unbroken-block (omega arith) (omega arith) c.has_newline.ensures c.if-has_newline.false)
-
-pub returns : goal.returns
-returns c = c.loop-i.invariant
+pub loop-block-preserved : goal.loop-block-preserved
+loop-block-preserved c =
+    onward_more _ _ c.loop-block.invariant c.in-Some.ensures.steps.1.0 c.has_newline.ensures c.if-has_newline.false
