@@ -51,8 +51,8 @@ fn unsent(code: usize, place: usize) -> Sending
     ensures { result ≡ record { code = code; place = place; count = 0 } }
 {
     Sending {
-        code: code,
-        place: place,
+        code,
+        place,
         count: 0,
     }
 }
@@ -63,16 +63,15 @@ fn send_counted(w: usize, u: Update, screen: &[u8], out: &mut [u8]) -> Sending
     ensures { outcome_of result out.new
         ≡ sent_into (sent_screen w u.first u.last u.row u.column screen.now) out.old }
 {
-    let size = sent_size(w, u.first, u.last, u.row, u.column);
-    if out.len() < size {
+    if out.len() < sent_size(w, u) {
         return unsent(ROOM, 0);
     }
     let column = sent_column(w, u.column);
-    let count = write_screen(w, u.first, u.last, u.row, column, screen, out);
+    let count = write_screen(w, Update { column, ..u }, screen, out);
     Sending {
         code: 0,
         place: 0,
-        count: count,
+        count,
     }
 }
 

@@ -9,10 +9,10 @@ pub loop-i-init : goal.loop-i-init
 unfolding rows_size
 loop-i-init c = (omega arith, refl)
 
-pub overflow_add-first : goal.overflow_add-first
-overflow_add-first c =
+pub overflow_add-u : goal.overflow_add-u
+overflow_add-u c =
     record {
-      fits = omega (arith, named-row c.args.first c.args.last c.row_count-rows.ensures c.loop-i-test.true);
+      fits = omega (arith, named-row c.args.u.first c.args.u.last c.row_count-i-end.ensures c.loop-i-test.true);
     }
 
 pub overflow_add-size : goal.overflow_add-size
@@ -20,19 +20,19 @@ overflow_add-size c =
     record {
       fits = omega (
         arith,
-        (spot-small c.args.w c.args.first c.args.last c.requires.0 c.requires.1 c.row_count-rows.ensures c.loop-i-test.true
+        (spot-small c.args.w c.args.u.first c.args.u.last c.requires.0 c.requires.1 c.row_count-i-end.ensures c.loop-i-test.true
             c.spot_size.ensures),
       );
     }
 
 pub overflow_add-size-in-loop-i : goal.overflow_add-size-in-loop-i
 overflow_add-size-in-loop-i c =
-    let so_far = rows-small c.args.w c.args.first c.args.last c.requires.0 c.requires.1
-    c.row_count-rows.ensures c.loop-i.i c.loop-i.invariant.0 c.requires.2
+    let so_far = rows-small c.args.w c.args.u.first c.args.u.last c.requires.0 c.requires.1
+    c.row_count-i-end.ensures c.loop-i.i c.loop-i.invariant.0 c.requires.2
     in record {
       fits = omega (
         arith,
-        (spot-small c.args.w c.args.first c.args.last c.requires.0 c.requires.1 c.row_count-rows.ensures c.loop-i-test.true
+        (spot-small c.args.w c.args.u.first c.args.u.last c.requires.0 c.requires.1 c.row_count-i-end.ensures c.loop-i-test.true
             c.spot_size.ensures),
         so_far,
         c.loop-i.invariant.1,
@@ -45,4 +45,4 @@ loop-i-preserved c = (omega arith, size-more _ _ _ c.loop-i.invariant.1 c.spot_s
 pub returns : goal.returns
 returns c =
     let all = size-all _ _ c.loop-i.invariant.1 c.loop-i.invariant.0 c.loop-i-test.false in
-    rw c.row_count-rows.ensures at all
+    rw c.row_count-i-end.ensures at all
