@@ -9,10 +9,18 @@ ghost use Rattle.editor.specs.declared.Mode.TheVariants.{Quoted};
 ghost use Rattle.window.specs.Rules.Window.{virtual_in, visible};
 ghost use Rattle.window.specs.Wording.Calls.{Texts, virtual_held, Refreshed};
 
-use crate::cells::{draw_run, end_row, fresh};
+use crate::cells::{draw_run, end_row};
 use crate::{Frame, Pen, Rows};
 use editor::{Lengths, Mode, QUARTER};
 use gap::lines::{count_newlines, end_at, since_newline};
+
+// A pen before any text.
+const FRESH: Pen = Pen {
+    y: 0,
+    x: 0,
+    changed: false,
+    named: None,
+};
 
 // A text from the window's first line on, run by run, until it ends or the window does.
 fn draw(f: Frame, pen: Pen, t: &[u8], screen: &mut [u8]) -> Pen
@@ -20,18 +28,12 @@ fn draw(f: Frame, pen: Pen, t: &[u8], screen: &mut [u8]) -> Pen
     requires pen_value { above f pen ≡ false }
     ensures { sheet result screen.new ≡ paint f t.now (sheet pen screen.old) }
 {
-    let n = t.len();
-    let bottom = f.r + f.h;
     let mut now = pen;
     let mut i = 0;
-    while i < n {
-        let y = now.y;
-        if bottom <= y {
-            return now;
-        }
+    for _y in pen.y..f.r + f.h {
         let e = end_at(t, i);
         let drawn = draw_run(f, now, &t[i..e], screen);
-        if n <= e {
+        if t.len() <= e {
             return drawn;
         }
         now = end_row(f, drawn, screen);
@@ -45,11 +47,9 @@ fn line_start(t: &[u8], k: usize) -> usize
     requires { k < newlines t.now }
     ensures { LineStart t.now k result }
 {
-    let mut left = k;
     let mut end = t.len();
-    while 0 < left {
+    for _i in 0..k {
         end = end - since_newline(0, &t[..end]) - 1;
-        left -= 1;
     }
     end - since_newline(0, &t[..end])
 }
@@ -59,28 +59,22 @@ fn paint_piece(f: Frame, pen: Pen, t: &[u8], screen: &mut [u8]) -> Pen
     requires { Easel f (length t.now) (sheet pen screen.old) }
     ensures { sheet result screen.new ≡ paint f t.now (sheet pen screen.old) }
 {
-    let r = f.r;
-    let y = pen.y;
-    if r <= y {
+    if f.r <= pen.y {
         return draw(f, pen, t, screen);
     }
-    let below = y + count_newlines(t);
-    if below < r {
+    let below = pen.y + count_newlines(t);
+    if below < f.r {
         return Pen {
             y: below,
             x: since_newline(pen.x, t),
-            changed: pen.changed,
-            first: pen.first,
-            last: pen.last,
+            ..pen
         };
     }
-    let at = line_start(t, below - r);
+    let at = line_start(t, below - f.r);
     let top = Pen {
-        y: r,
+        y: f.r,
         x: 0,
-        changed: pen.changed,
-        first: pen.first,
-        last: pen.last,
+        ..pen
     };
     draw(f, top, &t[at..], screen)
 }
@@ -91,31 +85,11 @@ fn finish(f: Frame, pen: Pen, screen: &mut [u8]) -> Pen
     requires pen_value { above f pen ≡ false }
     ensures { sheet result screen.new ≡ finish_paint f (sheet pen screen.old) }
 {
-    let bottom = f.r + f.h;
     let mut now = pen;
-    let mut y = pen.y;
-    while y < bottom {
+    for _y in pen.y..f.r + f.h {
         now = end_row(f, now, screen);
-        y += 1;
     }
     now
-}
-
-// The line break and the mark that begin a quotation, and the line break that ends it.
-fn open_quotation(f: Frame, pen: Pen, screen: &mut [u8]) -> Pen
-    requires { Easel f 2 (sheet pen screen.old) }
-    ensures { sheet result screen.new ≡ paint f (newline ∷ 62 ∷ []) (sheet pen screen.old) }
-{
-    let mark = [10u8, 62u8];
-    paint_piece(f, pen, &mark, screen)
-}
-
-fn close_quotation(f: Frame, pen: Pen, screen: &mut [u8]) -> Pen
-    requires { Easel f 1 (sheet pen screen.old) }
-    ensures { sheet result screen.new ≡ paint f (newline ∷ []) (sheet pen screen.old) }
-{
-    let mark = [10u8];
-    paint_piece(f, pen, &mark, screen)
 }
 
 // The virtual text in MAIN, from the first byte on.
@@ -125,11 +99,12 @@ fn paint_main(f: Frame, text: &[u8], l: usize, r: usize, screen: &mut [u8]) -> P
     ensures { sheet result screen.new ≡ paint f (content (ungap l r text.now)) (begun screen.old) }
 {
     let back = text.len() - r;
-    let left = paint_piece(f, fresh(), &text[..l], screen);
+    let left = paint_piece(f, FRESH, &text[..l], screen);
     paint_piece(f, left, &text[back..], screen)
 }
 
-// The virtual text in QUOTED: the quotation's two texts, q and s bytes long, stand between the document's.
+// The virtual text in QUOTED: the quotation's two texts, q and s bytes long, stand between the document's, on lines of their own, behind the
+// mark.
 fn paint_quoted(
     f: Frame,
     text: &[u8],
@@ -147,50 +122,43 @@ fn paint_quoted(
 {
     let back = text.len() - r;
     let behind = quarter.len() - s;
-    let left = paint_piece(f, fresh(), &text[..l], screen);
-    let opened = open_quotation(f, left, screen);
+    let left = paint_piece(f, FRESH, &text[..l], screen);
+    let opened = paint_piece(f, left, b"\n>", screen);
     let before = paint_piece(f, opened, &quarter[..q], screen);
     let after = paint_piece(f, before, &quarter[behind..], screen);
-    let closed = close_quotation(f, after, screen);
+    let closed = paint_piece(f, after, b"\n", screen);
     paint_piece(f, closed, &text[back..], screen)
 }
 
-// The rows that a pen has named.
-fn named_rows(pen: Pen) -> Rows
-    ensures { result ≡ record { first = pen.first; last = pen.last } }
+// The virtual text, in either mode.
+fn paint_text(n: Lengths, f: Frame, text: &[u8], side: &[u8], screen: &mut [u8]) -> Pen
+    requires texts { Texts n text.now side.now }
+    requires canvas { Canvas f (length text.now) screen.old }
+    ensures { sheet result screen.new ≡ paint f (content (virtual_held n text.now side.now)) (begun screen.old) }
 {
-    Rows {
-        first: pen.first,
-        last: pen.last,
+    match n.mode {
+        Mode::Main => paint_main(f, text, n.main.l, n.main.r, screen),
+        Mode::Quoted => paint_quoted(
+            f,
+            text,
+            n.main.l,
+            n.main.r,
+            &side[..QUARTER],
+            n.quoted.l,
+            n.quoted.r,
+            screen,
+        ),
     }
 }
 
-// The virtual text becomes the screen, and the changed rows are named.
+// The virtual text becomes the screen, and the changed rows are named: by 0 and 0 if there are none.
 pub fn refresh(n: Lengths, f: Frame, text: &[u8], side: &[u8], screen: &mut [u8]) -> Rows
     requires texts { Texts n text.now side.now }
     requires canvas { (Canvas f (length text.now) screen.old) × (visible f (virtual_held n text.now side.now) ≡ true) }
     ensures { Refreshed f (virtual_held n text.now side.now) screen.old result screen.new }
 {
-    let main = n.main;
-    let quoted = n.quoted;
-    let mode = n.mode;
-    match mode {
-        Mode::Main => {
-            let pen = paint_main(f, text, main.l, main.r, screen);
-            named_rows(finish(f, pen, screen))
-        }
-        Mode::Quoted => {
-            let pen = paint_quoted(
-                f,
-                text,
-                main.l,
-                main.r,
-                &side[..QUARTER],
-                quoted.l,
-                quoted.r,
-                screen,
-            );
-            named_rows(finish(f, pen, screen))
-        }
-    }
+    let pen = paint_text(n, f, text, side, screen);
+    finish(f, pen, screen)
+        .named
+        .unwrap_or(Rows { first: 0, last: 0 })
 }

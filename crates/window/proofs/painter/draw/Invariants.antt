@@ -5,8 +5,5 @@ use Rattle.window.specs.Wording.Painter.{sheet}
 use Rattle.window.proofs.Laws.Drawing.{Drawn}
 use Rattle.window.proofs.painter.draw.Given as goal
 
-abbrev pub invariant-loop-i : goal.invariant-loop-i
-invariant-loop-i l = Drawn l.f l.t (sheet l.initial.now l.initial.screen) l.i (sheet l.now l.screen)
-
-abbrev pub decreases-loop-i : goal.decreases-loop-i
-decreases-loop-i l = length l.t - l.i
+abbrev pub invariant-loop-y : goal.invariant-loop-y
+invariant-loop-y l = Drawn l.fn.f l.t (sheet l.initial.now l.initial.screen) l._y l.i (sheet l.now l.screen)

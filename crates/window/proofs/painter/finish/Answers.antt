@@ -1,5 +1,4 @@
 -- `painter::finish` meets its contract: the lines before y have ended, and those that are left decide.
-use mathlib.Core.Path.{sym, ◌∙◌}
 use Rattle.window.proofs.Laws.Drawing.{finished-none, end-asks, finished-line, finished-all}
 use Rattle.window.proofs.painter.finish.Goals as goal
 
@@ -11,9 +10,6 @@ end_row-now-requires c = let both = end-asks c.loop-y.invariant c.loop-y-test.tr
 
 pub loop-y-preserved : goal.loop-y-preserved
 loop-y-preserved c = finished-line c.loop-y.invariant c.loop-y-test.true c.end_row-now.ensures
-
-pub shape_of-screen : goal.shape_of-screen
-shape_of-screen c = c.loop-y.invariant.easel.long ∙ sym c.requires.easel.long
 
 pub returns : goal.returns
 returns c = finished-all c.loop-y.invariant c.loop-y-test.false

@@ -5,7 +5,4 @@ use Rattle.window.proofs.Laws.Drawing.{Finished}
 use Rattle.window.proofs.painter.finish.Given as goal
 
 abbrev pub invariant-loop-y : goal.invariant-loop-y
-invariant-loop-y l = Finished l.f (sheet l.initial.now l.initial.screen) l.y (sheet l.now l.screen)
-
-abbrev pub decreases-loop-y : goal.decreases-loop-y
-decreases-loop-y l = l.f.r + l.f.h - l.y
+invariant-loop-y l = Finished l.fn.f (sheet l.initial.now l.initial.screen) l._y (sheet l.now l.screen)

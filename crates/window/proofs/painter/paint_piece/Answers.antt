@@ -8,10 +8,10 @@ use Rattle.window.proofs.Laws.Pieces.{piece-above, piece-lines, first-line, piec
 use Rattle.window.proofs.painter.paint_piece.Goals as goal
 
 pub draw-requires : goal.draw-requires
-draw-requires c = record { easel = c.requires; pen_value = le-ltb _ _ c.if-r-y.true }
+draw-requires c = record { easel = c.requires; pen_value = le-ltb _ _ c.if-f-pen.true }
 
-pub returns-then-r-y : goal.returns-then-r-y
-returns-then-r-y c = c.draw.ensures
+pub returns-then-f-pen : goal.returns-then-f-pen
+returns-then-f-pen c = c.draw.ensures
 
 pub overflow_add-below : goal.overflow_add-below
 overflow_add-below c = omega (arith, c.count_newlines.ensures, newlines-fit c.args.t.now, c.requires.pen)
@@ -19,15 +19,15 @@ overflow_add-below c = omega (arith, c.count_newlines.ensures, newlines-fit c.ar
 pub since_newline-requires : goal.since_newline-requires
 since_newline-requires c = omega (arith, c.requires.pen)
 
-pub returns-then-below-r : goal.returns-then-below-r
-returns-then-below-r c =
+pub returns-then-below-f : goal.returns-then-below-f
+returns-then-below-f c =
     piece-above c.args.f c.args.t.now (sheet c.args.pen c.args.screen.now) c.count_newlines.ensures
-    c.since_newline.ensures c.if-below-r.true
+    c.since_newline.ensures c.if-below-f.true
 
 pub line_start-at-requires : goal.line_start-at-requires
 line_start-at-requires c =
     piece-lines c.args.f c.args.t.now (sheet c.args.pen c.args.screen.now) c.count_newlines.ensures
-    c.if-r-y.false c.if-below-r.false
+    c.if-f-pen.false c.if-below-f.false
 
 pub slice_bounds-draw-count : goal.slice_bounds-draw-count
 slice_bounds-draw-count c = c.line_start-at.ensures.within
@@ -37,8 +37,8 @@ slice_bounds-draw-start c = c.line_start-at.ensures.within
 
 pub draw-requires-2 : goal.draw-requires-2
 draw-requires-2 c =
-    let both = piece-asked (first-line _ _ _ c.count_newlines.ensures c.if-r-y.false c.if-below-r.false c.line_start-at.ensures) c.requires in
+    let both = piece-asked (first-line _ _ _ c.count_newlines.ensures c.if-f-pen.false c.if-below-f.false c.line_start-at.ensures) c.requires in
     record { easel = both.0; pen_value = both.1 }
 
 pub returns : goal.returns
-returns c = c.draw-2.ensures ∙ piece-painted (first-line _ _ _ c.count_newlines.ensures c.if-r-y.false c.if-below-r.false c.line_start-at.ensures)
+returns c = c.draw-2.ensures ∙ piece-painted (first-line _ _ _ c.count_newlines.ensures c.if-f-pen.false c.if-below-f.false c.line_start-at.ensures)

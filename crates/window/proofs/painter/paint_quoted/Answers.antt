@@ -1,5 +1,5 @@
 -- `painter::paint_quoted` meets its contract: the texts, the line breaks and the mark are painted one after the other.
-use mathlib.Core.Path.{◌≡◌}
+use mathlib.Core.Path.{◌≡◌, refl}
 use mathlib.Core.List.{List, [], ◌∷◌, ◌++◌}
 use Prim.Native.Nat.{ℕ, ◌+◌, ◌-◌}
 use native.Mathlib.Omega.{arith}
@@ -46,45 +46,45 @@ module _ {f : Frame} (text quarter : List ℕ) (l q s : ℕ) {screen : List ℕ}
           painted₅ = pieces-on painted₄ (newline ∷ []) (omega arith) so₅
 
 pub paint_piece-left-requires : goal.paint_piece-left-requires
-paint_piece-left-requires c = pieces-next (pieces_none 6 (omega arith) c.requires.canvas c.fresh.ensures) _ (simp length-take (omega arith))
+paint_piece-left-requires c = pieces-next (pieces_none 6 (omega arith) c.requires.canvas refl) _ (simp length-take (omega arith))
 
-pub open_quotation-opened-requires : goal.open_quotation-opened-requires
-open_quotation-opened-requires c =
-    pieces-next (painted₁ c.args.text.now c.args.quarter.now c.args.l c.args.q c.args.s c.requires.canvas c.fresh.ensures c.paint_piece-left.ensures)
+pub paint_piece-opened-requires : goal.paint_piece-opened-requires
+paint_piece-opened-requires c =
+    pieces-next (painted₁ c.args.text.now c.args.quarter.now c.args.l c.args.q c.args.s c.requires.canvas refl c.paint_piece-left.ensures)
     2 (omega arith)
 
 pub paint_piece-before-requires : goal.paint_piece-before-requires
 paint_piece-before-requires c =
-    pieces-next (painted₂ c.args.text.now c.args.quarter.now c.args.l c.args.q c.args.s c.requires.canvas c.fresh.ensures c.paint_piece-left.ensures
-    c.open_quotation-opened.ensures) _ (simp length-take (omega arith))
+    pieces-next (painted₂ c.args.text.now c.args.quarter.now c.args.l c.args.q c.args.s c.requires.canvas refl c.paint_piece-left.ensures
+    c.paint_piece-opened.ensures) _ (simp length-take (omega arith))
 
 pub paint_piece-after-requires : goal.paint_piece-after-requires
 paint_piece-after-requires c =
     let short = c.requires.canvas.short in
     pieces-next
-    (painted₃ c.args.text.now c.args.quarter.now c.args.l c.args.q c.args.s c.requires.canvas c.fresh.ensures c.paint_piece-left.ensures
-    c.open_quotation-opened.ensures c.paint_piece-before.ensures) _
+    (painted₃ c.args.text.now c.args.quarter.now c.args.l c.args.q c.args.s c.requires.canvas refl c.paint_piece-left.ensures
+    c.paint_piece-opened.ensures c.paint_piece-before.ensures) _
     (tail-short _ c.args.quarter.now (omega arith))
 
-pub close_quotation-closed-requires : goal.close_quotation-closed-requires
-close_quotation-closed-requires c =
+pub paint_piece-closed-requires : goal.paint_piece-closed-requires
+paint_piece-closed-requires c =
     pieces-next
-    (painted₄ c.args.text.now c.args.quarter.now c.args.l c.args.q c.args.s c.requires.canvas c.fresh.ensures c.paint_piece-left.ensures
-    c.open_quotation-opened.ensures c.paint_piece-before.ensures
+    (painted₄ c.args.text.now c.args.quarter.now c.args.l c.args.q c.args.s c.requires.canvas refl c.paint_piece-left.ensures
+    c.paint_piece-opened.ensures c.paint_piece-before.ensures
     c.paint_piece-after.ensures) 1 (omega arith)
 
 pub paint_piece-requires : goal.paint_piece-requires
 paint_piece-requires c =
     let short = c.requires.canvas.short in
     pieces-next
-    (painted₅ c.args.text.now c.args.quarter.now c.args.l c.args.q c.args.s c.requires.canvas c.fresh.ensures c.paint_piece-left.ensures
-    c.open_quotation-opened.ensures c.paint_piece-before.ensures
-    c.paint_piece-after.ensures c.close_quotation-closed.ensures) _ (tail-short _ c.args.text.now (omega arith))
+    (painted₅ c.args.text.now c.args.quarter.now c.args.l c.args.q c.args.s c.requires.canvas refl c.paint_piece-left.ensures
+    c.paint_piece-opened.ensures c.paint_piece-before.ensures
+    c.paint_piece-after.ensures c.paint_piece-closed.ensures) _ (tail-short _ c.args.text.now (omega arith))
 
 pub returns : goal.returns
 returns c =
     pieces-all
-    (painted₅ c.args.text.now c.args.quarter.now c.args.l c.args.q c.args.s c.requires.canvas c.fresh.ensures c.paint_piece-left.ensures
-    c.open_quotation-opened.ensures c.paint_piece-before.ensures
-    c.paint_piece-after.ensures c.close_quotation-closed.ensures) _ _ c.paint_piece.ensures
+    (painted₅ c.args.text.now c.args.quarter.now c.args.l c.args.q c.args.s c.requires.canvas refl c.paint_piece-left.ensures
+    c.paint_piece-opened.ensures c.paint_piece-before.ensures
+    c.paint_piece-after.ensures c.paint_piece-closed.ensures) _ _ c.paint_piece.ensures
     (quoted-pieces c.args.l c.args.r c.args.text.now c.args.q c.args.s c.args.quarter.now)
