@@ -64,6 +64,7 @@ fn heard_numbers(used: usize, kind: usize, a: usize, b: usize, c: usize) -> Hear
     }
 }
 
+#[tactic(auto, unfolding(crate::specs::Rules::Receiving::heard_key))]
 fn heard_key(k: Key, used: usize) -> Heard
     ensures { result ≡ heard_key k used }
 {
@@ -89,6 +90,7 @@ fn heard_key(k: Key, used: usize) -> Heard
 }
 
 // The first key of the bytes received so far; or that more are needed; or SEQUENCE.
+#[tactic(auto, unfolding(crate::specs::Rules::Receiving::heard_of))]
 pub fn chidukwore_receive(bytes: &[u8]) -> Heard
     ensures { result ≡ heard_of (received bytes.now) }
 {

@@ -1,22 +1,19 @@
 -- Laws of the cells that the painter's code writes: the end of a row, and a run in a row.
-use mathlib.Core.Path.{◌≡◌, refl, sym, ap, ap₂, ◌∙◌}
+use mathlib.Core.Path.{◌≡◌, sym, ap, ap₂, ◌∙◌}
 use mathlib.Core.Logic.{⊎_elim}
-use mathlib.Core.Bool.{Bool, true, false, not, ◌&&◌, ◌||◌, and-true, and_assoc}
-use mathlib.Core.List.{List, [], append-nil}
+use mathlib.Core.Bool.{Bool, false, not, ◌||◌}
+use mathlib.Core.List.{List}
 use Prim.Native.Nat.{ℕ, ◌+◌, ◌-◌, ◌*◌, ◌≤◌, ◌<◌, min, max}
 use native.Mathlib.Nat.{mul-le-mul}
-use native.Mathlib.Numerals.{add-one}
 use native.Mathlib.Omega.{arith}
-use lib.Dec.{eqb, ltb}
-use lib.ListN.{length, take, drop, set, get_or, replicate, drop_of_length-le, length-replicate, get_or-replicate}
-use lib.Seq.{drop-cons, drop-length, length-take-le, get_or_at}
+use lib.Dec.{ltb}
+use lib.ListN.{length, take, replicate, length-replicate}
 use borrow.Author.Tests.{ltb-true, ltb-false, le-ltb, lt-leb}
 use borrow.Rule.Slice.PartMut.{mid_of, put_mid}
 use Rattle.std.proofs.lemmas.List.{take-replicate}
 use Rattle.gap.specs.Rules.Sequence.{same_bytes, part, patch}
 use Rattle.gap.proofs.Laws.Tests.{decided, cond-false}
 use Rattle.gap.proofs.Laws.Sequence.{length_part}
-use Rattle.gap.proofs.Laws.Runs.{Copied, copied_none, copied_more, copied_all}
 use Rattle.window.specs.Words.{Frame}
 use Rattle.window.specs.declared.Pen.{Pen}
 use Rattle.window.specs.Wording.Painter.{Sheet, sheet, above, over, across, next_cell, cell_of, OnRow, Easel}

@@ -6,10 +6,8 @@ use mathlib.Core.List.{List, ◌++◌, append_assoc, append-nil}
 use Prim.Native.Nat.{ℕ, suc, ◌+◌, ◌-◌, ◌*◌, ◌≤◌, ◌<◌}
 use native.Mathlib.Nat.{zero-mul, suc-mul, eq-or-lt_of_le}
 use native.Mathlib.Omega.{arith}
-use lib.Dec.{eqb}
 use lib.ListN.{length, take, drop, length-append, length-take, length-drop, drop_of_length-le}
 use lib.Seq.{length-take-le, take-add, take_at, take_all, drop_at, drop-drop}
-use borrow.Author.Tests.{ne_eqb}
 use Rattle.std.specs.Prelude.{Option, None, Some, unwrap_or}
 use Rattle.gap.specs.Rules.Sequence.{same_bytes, part, patch}
 use Rattle.gap.proofs.Laws.Tests.{clash}

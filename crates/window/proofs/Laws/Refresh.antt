@@ -1,6 +1,6 @@
 -- Laws of the refresh: the painted pieces are the virtual text, its end is in the window because the cursor is visible, and the finished
 -- painting is the window with the named rows.
-use mathlib.Core.Path.{◌≡◌, sym, ap, ◌∙◌}
+use mathlib.Core.Path.{◌≡◌, sym}
 use mathlib.Core.Bool.{true, false}
 use mathlib.Core.List.{List}
 use Prim.Native.Nat.{ℕ, ◌+◌, ◌^◌, ◌≤◌}

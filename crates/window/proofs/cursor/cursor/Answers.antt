@@ -1,18 +1,11 @@
 -- `cursor::cursor` meets its contract: newlines and columns of the texts left of the cursor are those of the virtual text.
 use native.Mathlib.Omega.{arith}
-use lib.ListN.{length-take}
 use Rattle.gap.proofs.Laws.Lines.{front-newlines}
 use Rattle.window.proofs.Laws.Spots.{main-spot, quoted-spot}
 use Rattle.window.proofs.cursor.cursor.Goals as goal
 
 pub overflow_add-result : goal.overflow_add-result
 overflow_add-result c = omega (arith, c.requires.above_value, front-newlines c.args.n.main.l c.args.text.now)
-
-pub slice_bounds-since_newline-end : goal.slice_bounds-since_newline-end
-slice_bounds-since_newline-end c = simp length-take (omega arith)
-
-pub since_newline-requires : goal.since_newline-requires
-since_newline-requires c = simp length-take (omega arith)
 
 pub overflow_add-result-in-Quoted : goal.overflow_add-result-in-Quoted
 overflow_add-result-in-Quoted c =
@@ -25,12 +18,6 @@ overflow_add-result-in-Quoted-2 c =
     let above = front-newlines c.args.n.main.l c.args.text.now in
     let within = front-newlines c.args.n.quoted.l c.args.side.now in
     omega (arith, c.requires.above_value, c.count_newlines.ensures)
-
-pub slice_bounds-quotation-end : goal.slice_bounds-quotation-end
-slice_bounds-quotation-end c = simp length-take (omega arith)
-
-pub since_newline-requires-in-Quoted : goal.since_newline-requires-in-Quoted
-since_newline-requires-in-Quoted c = simp length-take (omega arith)
 
 pub returns-in-Main : goal.returns-in-Main
 returns-in-Main c =

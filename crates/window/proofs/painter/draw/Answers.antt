@@ -1,15 +1,9 @@
 -- `painter::draw` meets its contract: what is left of the text decides, run by run and line by line.
 use native.Mathlib.Omega.{arith}
 use Rattle.gap.proofs.Laws.LinePlaces.{line-starts, line-inside, ends-unbroken, ends-stop}
-use Rattle.window.proofs.Laws.Drawing.{drawn-none, drawn-in-row, drawn-run, drawn-line, drawn-over, drawn-all}
+use Rattle.window.proofs.Laws.Drawing.{drawn-in-row, drawn-run, drawn-line, drawn-over}
 use Rattle.window.proofs.Laws.Drawing.{run-asks, line-asks}
 use Rattle.window.proofs.painter.draw.Goals as goal
-
-pub loop-y-init : goal.loop-y-init
-loop-y-init c = drawn-none c.requires.easel c.requires.pen_value
-
-pub end_at-e-requires : goal.end_at-e-requires
-end_at-e-requires c = c.loop-y.invariant.within
 
 pub slice_bounds-draw_run-count : goal.slice_bounds-draw_run-count
 slice_bounds-draw_run-count c = line-starts _ _ c.end_at-e.ensures
@@ -25,21 +19,12 @@ draw_run-drawn-requires c =
     let both = run-asks (drawn-in-row c.loop-y.invariant c.loop-y-test.true) (ends-unbroken _ _ c.loop-y.invariant.within c.end_at-e.ensures) in
     record { run_value = both.0; easel = both.1.0; pen_value = both.1.1 }
 
-pub returns-then-t-e : goal.returns-then-t-e
-returns-then-t-e c =
-    let row = drawn-in-row c.loop-y.invariant c.loop-y-test.true in
-    let run = drawn-run row (ends-unbroken _ _ c.loop-y.invariant.within c.end_at-e.ensures) c.draw_run-drawn.ensures in
-    drawn-all run.drawn c.if-t-e.true
-
 pub end_row-now-requires : goal.end_row-now-requires
 end_row-now-requires c =
     let row = drawn-in-row c.loop-y.invariant c.loop-y-test.true in
     let run = drawn-run row (ends-unbroken _ _ c.loop-y.invariant.within c.end_at-e.ensures) c.draw_run-drawn.ensures in
     let both = line-asks run c.if-t-e.false in
     record { easel = both.0; pen_value = both.1 }
-
-pub overflow_add-i : goal.overflow_add-i
-overflow_add-i c = omega (arith, c.if-t-e.false)
 
 pub loop-y-preserved : goal.loop-y-preserved
 loop-y-preserved c =

@@ -1,6 +1,4 @@
 -- `painter::draw` meets its contract: what is left of the text decides, run by run and line by line.
-use Prim.Native.Nat.{◌-◌}
-use lib.ListN.{length}
 use Rattle.window.specs.Wording.Painter.{sheet}
 use Rattle.window.proofs.Laws.Drawing.{Drawn}
 use Rattle.window.proofs.painter.draw.Given as goal

@@ -1,5 +1,4 @@
 -- `painter::finish` meets its contract: the lines before y have ended, and those that are left decide.
-use Prim.Native.Nat.{◌+◌, ◌-◌}
 use Rattle.window.specs.Wording.Painter.{sheet}
 use Rattle.window.proofs.Laws.Drawing.{Finished}
 use Rattle.window.proofs.painter.finish.Given as goal

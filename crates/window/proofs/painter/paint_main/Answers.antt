@@ -1,12 +1,8 @@
 -- `painter::paint_main` meets its contract: the two texts of the document are painted one after the other.
 use mathlib.Core.Path.{refl}
 use native.Mathlib.Omega.{arith}
-use lib.ListN.{length-take}
 use Rattle.window.proofs.Laws.Pieces.{pieces_none, pieces-next, pieces-on, pieces-all, front-short, tail-short, main-pieces}
 use Rattle.window.proofs.painter.paint_main.Goals as goal
-
-pub paint_piece-left-requires : goal.paint_piece-left-requires
-paint_piece-left-requires c = pieces-next (pieces_none 2 (omega arith) c.requires.canvas refl) _ (simp length-take (omega arith))
 
 pub paint_piece-requires : goal.paint_piece-requires
 paint_piece-requires c =

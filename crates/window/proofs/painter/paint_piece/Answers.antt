@@ -1,39 +1,18 @@
 -- `painter::paint_piece` meets its contract: what lies above the window is counted, and the rest is drawn.
 use mathlib.Core.Path.{◌∙◌}
 use native.Mathlib.Omega.{arith}
-use borrow.Author.Tests.{le-ltb}
 use Rattle.window.specs.Wording.Painter.{sheet}
 use Rattle.gap.proofs.Laws.Lines.{newlines-fit}
-use Rattle.window.proofs.Laws.Pieces.{piece-above, piece-lines, first-line, piece-asked, piece-painted}
+use Rattle.window.proofs.Laws.Pieces.{piece-above, first-line, piece-asked, piece-painted}
 use Rattle.window.proofs.painter.paint_piece.Goals as goal
-
-pub draw-requires : goal.draw-requires
-draw-requires c = record { easel = c.requires; pen_value = le-ltb _ _ c.if-f-pen.true }
-
-pub returns-then-f-pen : goal.returns-then-f-pen
-returns-then-f-pen c = c.draw.ensures
 
 pub overflow_add-below : goal.overflow_add-below
 overflow_add-below c = omega (arith, c.count_newlines.ensures, newlines-fit c.args.t.now, c.requires.pen)
-
-pub since_newline-requires : goal.since_newline-requires
-since_newline-requires c = omega (arith, c.requires.pen)
 
 pub returns-then-below-f : goal.returns-then-below-f
 returns-then-below-f c =
     piece-above c.args.f c.args.t.now (sheet c.args.pen c.args.screen.now) c.count_newlines.ensures
     c.since_newline.ensures c.if-below-f.true
-
-pub line_start-at-requires : goal.line_start-at-requires
-line_start-at-requires c =
-    piece-lines c.args.f c.args.t.now (sheet c.args.pen c.args.screen.now) c.count_newlines.ensures
-    c.if-f-pen.false c.if-below-f.false
-
-pub slice_bounds-draw-count : goal.slice_bounds-draw-count
-slice_bounds-draw-count c = c.line_start-at.ensures.within
-
-pub slice_bounds-draw-start : goal.slice_bounds-draw-start
-slice_bounds-draw-start c = c.line_start-at.ensures.within
 
 pub draw-requires-2 : goal.draw-requires-2
 draw-requires-2 c =

@@ -45,9 +45,6 @@ module _ {f : Frame} (text quarter : List ℕ) (l q s : ℕ) {screen : List ℕ}
               (sheet closed screen₅)
           painted₅ = pieces-on painted₄ (newline ∷ []) (omega arith) so₅
 
-pub paint_piece-left-requires : goal.paint_piece-left-requires
-paint_piece-left-requires c = pieces-next (pieces_none 6 (omega arith) c.requires.canvas refl) _ (simp length-take (omega arith))
-
 pub paint_piece-opened-requires : goal.paint_piece-opened-requires
 paint_piece-opened-requires c =
     pieces-next (painted₁ c.args.text.now c.args.quarter.now c.args.l c.args.q c.args.s c.requires.canvas refl c.paint_piece-left.ensures)

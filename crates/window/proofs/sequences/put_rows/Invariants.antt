@@ -1,5 +1,4 @@
 -- `put_rows` writes the named rows, one a turn: before turn i, the first i are written.
-use Prim.Native.Nat.{◌-◌}
 use Rattle.window.proofs.Laws.Sequences.{RowsSent}
 use Rattle.window.proofs.sequences.put_rows.Given as goal
 
