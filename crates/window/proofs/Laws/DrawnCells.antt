@@ -16,7 +16,7 @@ use Rattle.gap.proofs.Laws.Tests.{decided, cond-false}
 use Rattle.gap.proofs.Laws.Sequence.{length_part}
 use Rattle.window.specs.Words.{Frame}
 use Rattle.window.specs.declared.Pen.{Pen}
-use Rattle.window.specs.Wording.Painter.{Sheet, sheet, above, over, across, next_cell, cell_of, OnRow, Easel}
+use Rattle.window.specs.Wording.Painter.{Sheet, sheet, above, over, across, next_cell, cell_of, Easel}
 use Rattle.window.specs.Wording.Painter.{put, along, pen_below, row_below, line_end, paint}
 use Rattle.window.proofs.Laws.Paint.{InRow, in_row, row_fits, blanks}
 use Rattle.window.proofs.Laws.PaintedRun.{Run, lowest, highest, paint-run-none, paint-run}
@@ -66,12 +66,6 @@ unfolding line_end
 row-end f p row =
     cond-false _ _ (lt-leb (f.r + f.h) p.pen.y row.bottom) ∙ cond-false _ _ (le-ltb p.pen.y f.r row.top)
 
--- A screen is small, and so is each number on the way to a cell.
-pub cell-small : {f : Frame} {pen : Pen} {column : ℕ} → OnRow f pen column → ((pen.y - f.r) * f.w ≤ 16384) × (column - f.c ≤ 256)
-cell-small {f} {pen} row =
-    let few : pen.y - f.r ≤ 64 = omega (arith, row.top, row.bottom, row.rows) in
-    (mul-le-mul few row.columns, omega (arith, row.columns, row.right))
-
 -- The columns from low to high of the pen's row, all in the window: their cells are on the screen.
 cells_fit : {f : Frame} {n : ℕ} {pen : Pen} {screen : List ℕ} → Easel f n (sheet pen screen) × Inside f (sheet pen screen)
     → {at low high : ℕ} → at ≡ cell_of f pen low → f.c ≤ low → low ≤ high → high ≤ f.c + f.w
@@ -119,9 +113,6 @@ module _ {f : Frame} {pen : Pen} {screen : List ℕ} (asked : Easel f 1 (sheet p
 
   rest-size : length rest ≡ left
   rest-size = part-size at (at + left) screen (omega arith) rest-fits.0 ∙ omega arith
-
-  pub blanks-long : length row_of_blanks ≡ length rest
-  blanks-long = rw (blank left few-left) (length-replicate {A = ℕ} left 32 ∙ sym rest-size)
 
   pub row-ended : {q : Pen} {back : List ℕ} {changed : Bool} → back ≡ row_of_blanks
       → changed ≡ not (same_bytes rest row_of_blanks) → q ≡ pen_below f pen (pen.changed || changed)

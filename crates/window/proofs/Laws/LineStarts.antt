@@ -7,7 +7,7 @@ use native.Mathlib.Nat.{zero-add}
 use native.Mathlib.Omega.{arith}
 use lib.Dec.{eqb}
 use lib.ListN.{length, take, length-append}
-use lib.Seq.{take-take, take-length, length-take-le, take-append_seam, take-append-add}
+use lib.Seq.{take-take, length-take-le, take-append_seam, take-append-add}
 use borrow.Author.Tests.{eqb-true}
 use Rattle.gap.specs.Rules.Lines.{newline, newlines, since_after, since}
 use Rattle.gap.proofs.Laws.Lines.{newlines-append, since-append, since-unbroken}
@@ -64,9 +64,6 @@ pub record Back (t : List ℕ) (k i end : ℕ) : Type 0 where
   pub passed : i ≤ k
   pub within : end ≤ length t
   pub lines : newlines (take end t) + i ≡ newlines t
-
-pub back_start : {t : List ℕ} {k : ℕ} → k < newlines t → Back t k 0 (length t)
-back_start some = record { some = some; passed = omega arith; within = omega arith; lines = rw take-length (omega arith) }
 
 module _ {t : List ℕ} {k i end : ℕ} (so_far : Back t k i end) {column : ℕ} (here : column ≡ since (take end t)) where
   line : LastLine (take end t)

@@ -31,9 +31,6 @@ pub record FirstLine (f : Frame) (t : List ℕ) (p : Sheet) (at : ℕ) : Type 0 
 
 module _ (f : Frame) (t : List ℕ) (p : Sheet) {count : ℕ} (counted : count ≡ newlines t) (up : p.pen.y < f.r)
     (low : f.r ≤ p.pen.y + count) where
-  pub piece-lines : p.pen.y + count - f.r < newlines t
-  piece-lines = omega arith
-
   pub first-line : {at : ℕ} → LineStart t (p.pen.y + count - f.r) at → FirstLine f t p at
   first-line start = record { up = up; low = omega arith; start = rw counted at start }
 
