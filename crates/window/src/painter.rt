@@ -1,12 +1,10 @@
 // The painter: the text is gone over once from the window's first line on, each cell is written once, and the changed rows are found on
 // the way.
-ghost use Rattle.std.specs.Prelude.{◌≡◌, true, false, ◌+◌, ◌-◌, ◌≤◌, ◌<◌, length, [], ◌∷◌};
-ghost use Rattle.gap.specs.Rules.Lines.{newline, newlines};
+ghost use Rattle.std.specs.Prelude.{◌≡◌, true, false, ◌<◌, length, map};
+ghost use Rattle.gap.specs.Rules.Lines.{newlines};
 ghost use Rattle.window.specs.Wording.Painter.{above, paint, finish_paint, begun, Easel, Canvas, sheet, LineStart};
 ghost use Rattle.gap.specs.Rules.Doc.{content};
-ghost use Rattle.gap.specs.Rules.Layout.{ungap};
-ghost use Rattle.editor.specs.declared.Mode.TheVariants.{Quoted};
-ghost use Rattle.window.specs.Rules.Window.{virtual_in, visible};
+ghost use Rattle.window.specs.Rules.Window.{joined, visible};
 ghost use Rattle.window.specs.Wording.Calls.{Texts, virtual_held, Refreshed};
 
 use crate::cells::{draw_run, end_row};
@@ -92,62 +90,34 @@ fn finish(f: Frame, pen: Pen, screen: &mut [u8]) -> Pen
     now
 }
 
-// The virtual text in MAIN, from the first byte on.
-fn paint_main(f: Frame, text: &[u8], l: usize, r: usize, screen: &mut [u8]) -> Pen
-    requires canvas { Canvas f (length text.now) screen.old }
-    requires r_in_bounds { l + r ≤ length text.now }
-    ensures { sheet result screen.new ≡ paint f (content (ungap l r text.now)) (begun screen.old) }
+// The pieces of a text, one behind the other, from the first byte on.
+fn paint_pieces(f: Frame, pieces: &[&[u8]], screen: &mut [u8]) -> Pen
+    requires { Easel f (length (joined (map (λ p. p.now) pieces.now))) (begun screen.old) }
+    ensures { sheet result screen.new ≡ paint f (joined (map (λ p. p.now) pieces.now)) (begun screen.old) }
 {
-    let back = text.len() - r;
-    let left = paint_piece(f, FRESH, &text[..l], screen);
-    paint_piece(f, left, &text[back..], screen)
+    let mut now = FRESH;
+    for piece in pieces {
+        now = paint_piece(f, now, *piece, screen);
+    }
+    now
 }
 
-// The virtual text in QUOTED: the quotation's two texts, q and s bytes long, stand between the document's, on lines of their own, behind the
-// mark.
-fn paint_quoted(
-    f: Frame,
-    text: &[u8],
-    l: usize,
-    r: usize,
-    quarter: &[u8],
-    q: usize,
-    s: usize,
-    screen: &mut [u8],
-) -> Pen
-    requires canvas { Canvas f (length text.now + length quarter.now) screen.old }
-    requires r_in_bounds { (l + r ≤ length text.now) × (q + s ≤ length quarter.now) }
-    ensures { sheet result screen.new
-        ≡ paint f (content (virtual_in Quoted (ungap l r text.now) (ungap q s quarter.now))) (begun screen.old) }
-{
-    let back = text.len() - r;
-    let behind = quarter.len() - s;
-    let left = paint_piece(f, FRESH, &text[..l], screen);
-    let opened = paint_piece(f, left, b"\n>", screen);
-    let before = paint_piece(f, opened, &quarter[..q], screen);
-    let after = paint_piece(f, before, &quarter[behind..], screen);
-    let closed = paint_piece(f, after, b"\n", screen);
-    paint_piece(f, closed, &text[back..], screen)
-}
-
-// The virtual text, in either mode.
+// The virtual text. In QUOTED the quotation's two texts stand between the document's, on lines of their own behind the mark.
 fn paint_text(n: Lengths, f: Frame, text: &[u8], side: &[u8], screen: &mut [u8]) -> Pen
     requires texts { Texts n text.now side.now }
     requires canvas { Canvas f (length text.now) screen.old }
     ensures { sheet result screen.new ≡ paint f (content (virtual_held n text.now side.now)) (begun screen.old) }
 {
+    let left = &text[..n.main.l];
+    let right = &text[text.len() - n.main.r..];
     match n.mode {
-        Mode::Main => paint_main(f, text, n.main.l, n.main.r, screen),
-        Mode::Quoted => paint_quoted(
-            f,
-            text,
-            n.main.l,
-            n.main.r,
-            &side[..QUARTER],
-            n.quoted.l,
-            n.quoted.r,
-            screen,
-        ),
+        Mode::Main => paint_pieces(f, &[left, right], screen),
+        Mode::Quoted => {
+            let quarter = &side[..QUARTER];
+            let before = &quarter[..n.quoted.l];
+            let behind = &quarter[quarter.len() - n.quoted.r..];
+            paint_pieces(f, &[left, b"\n>", before, behind, b"\n", right], screen)
+        }
     }
 }
 

@@ -36,20 +36,10 @@ module _ (n : Lengths) (text side : List ℕ) where
   unfolding quarter
   quoted-held mode = rw (mode, first-quarter)
 
--- What painting a quotation asks of its quarter.
+-- The quotation's quarter is as long as a quarter.
 pub quarter-size : {n : Lengths} {text side : List ℕ} → Texts n text side → quarter ≡ length (take quarter side)
 unfolding quarter
 quarter-size {side = side} texts = sym (length-take-le quarter side (omega arith))
-
-pub quoted-asked : {f : Frame} {n : Lengths} {text side screen : List ℕ} → Texts n text side → Canvas f (length text) screen
-    → Canvas f (length text + length (take quarter side)) screen
-    × ((n.main.l + n.main.r ≤ length text) × (n.quoted.l + n.quoted.r ≤ length (take quarter side)))
-unfolding quarter
-quoted-asked texts canvas =
-    let size = quarter-size texts in (
-      record { long = canvas.long; rows = canvas.rows; columns = canvas.columns; offsets = canvas.offsets; short = omega arith },
-      (texts.document, omega arith),
-    )
 
 -- The virtual text is short.
 length-virtual : (m : Mode) (d q : Doc)
@@ -71,6 +61,12 @@ length-held n text side texts =
     let quotation = length-ungap n.quoted.l n.quoted.r front in
     let size : length front ≤ quarter = rw (first-quarter, length-take) (omega arith) in
     omega arith
+
+-- Pieces that make it up can be painted.
+pub pieces-asked : {f : Frame} {n : Lengths} {text side screen all : List ℕ} → Texts n text side → Canvas f (length text) screen
+    → all ≡ content (virtual_held n text side) → Easel f (length all) (begun screen)
+pieces-asked {n = n} {text} {side} texts canvas whole =
+    rw whole (canvas-easel canvas (length (content (virtual_held n text side))) (omega (arith, length-held n text side texts)))
 
 -- All pieces are painted, and what the refresh asked for holds.
 pub record AllPainted (f : Frame) (n : Lengths) (text side screen : List ℕ) (p : Sheet) : Type 0 where

@@ -1,24 +1,48 @@
--- `painter::paint_text` meets its contract: what each mode paints is the virtual text that the stores hold.
+-- `painter::paint_text` meets its contract: the pieces of each mode make up the virtual text that the stores hold.
 use mathlib.Core.Path.{ap, ◌∙◌}
+use native.Mathlib.Omega.{arith}
+use lib.ListN.{take, length-take}
 use Rattle.gap.specs.Rules.Doc.{content}
 use Rattle.editor.specs.Rules.Bytes.{quarter}
 use Rattle.window.specs.Wording.Painter.{begun, paint}
-use Rattle.window.proofs.Laws.Refresh.{main-held, quoted-held, quarter-size, quoted-asked}
+use Rattle.window.proofs.Laws.Pieces.{main-pieces, quoted-pieces}
+use Rattle.window.proofs.Laws.Refresh.{main-held, quoted-held, quarter-size, pieces-asked}
 use Rattle.window.proofs.painter.paint_text.Goals as goal
 
-pub slice_bounds-paint_quoted-end : goal.slice_bounds-paint_quoted-end
-unfolding quarter
-slice_bounds-paint_quoted-end c = quarter-size c.requires.texts
-
-pub paint_quoted-requires : goal.paint_quoted-requires
-unfolding quarter
-paint_quoted-requires c = let both = quoted-asked c.requires.texts c.requires.canvas in record { canvas = both.0; r_in_bounds = both.1 }
+pub paint_pieces-requires : goal.paint_pieces-requires
+paint_pieces-requires c =
+    pieces-asked c.requires.texts c.requires.canvas
+    (main-pieces c.args.n.main.l c.args.n.main.r c.args.text.now ∙ ap content (main-held c.args.n _ _ c.in-Main.is))
 
 pub returns-in-Main : goal.returns-in-Main
 returns-in-Main c =
-    c.paint_main.ensures ∙ ap (λ d. paint c.args.f (content d) (begun c.args.screen.now)) (main-held c.args.n _ _ c.in-Main.is)
+    c.paint_pieces.ensures
+    ∙ ap (λ all. paint c.args.f all (begun c.args.screen.now))
+    (main-pieces c.args.n.main.l c.args.n.main.r c.args.text.now ∙ ap content (main-held c.args.n _ _ c.in-Main.is))
+
+pub slice_bounds-quarter-end : goal.slice_bounds-quarter-end
+unfolding quarter
+slice_bounds-quarter-end c = quarter-size c.requires.texts
+
+pub slice_bounds-before-end : goal.slice_bounds-before-end
+unfolding quarter
+slice_bounds-before-end c = simp length-take (omega (arith, quarter-size c.requires.texts, c.requires.texts.quotation))
+
+pub overflow_sub-behind : goal.overflow_sub-behind
+unfolding quarter
+overflow_sub-behind c = omega (arith, quarter-size c.requires.texts, c.requires.texts.quotation)
+
+pub paint_pieces-requires-in-Quoted : goal.paint_pieces-requires-in-Quoted
+unfolding quarter
+paint_pieces-requires-in-Quoted c =
+    pieces-asked c.requires.texts c.requires.canvas
+    (quoted-pieces c.args.n.main.l c.args.n.main.r c.args.text.now c.args.n.quoted.l c.args.n.quoted.r (take quarter c.args.side.now)
+    ∙ ap content (quoted-held c.args.n _ _ c.in-Quoted.is))
 
 pub returns-in-Quoted : goal.returns-in-Quoted
 unfolding quarter
 returns-in-Quoted c =
-    c.paint_quoted.ensures ∙ ap (λ d. paint c.args.f (content d) (begun c.args.screen.now)) (quoted-held c.args.n _ _ c.in-Quoted.is)
+    c.paint_pieces-in-Quoted.ensures
+    ∙ ap (λ all. paint c.args.f all (begun c.args.screen.now))
+    (quoted-pieces c.args.n.main.l c.args.n.main.r c.args.text.now c.args.n.quoted.l c.args.n.quoted.r (take quarter c.args.side.now)
+    ∙ ap content (quoted-held c.args.n _ _ c.in-Quoted.is))
