@@ -16,15 +16,17 @@ pub fn spot_size(row: usize, column: usize) -> usize
     4 + decimal_size(row) + decimal_size(column)
 }
 
-// How many rows are named: none if the first is 0.
-fn row_count(u: Update) -> usize
-    requires { (u.first ≤ u.last) × (u.last ≤ 64) }
-    ensures { result ≡ row_count u.first u.last }
-{
-    if u.first == 0 {
-        return 0;
+impl Update {
+    // How many rows are named: none if the first is 0.
+    fn row_count(self) -> usize
+        requires { (self.first ≤ self.last) × (self.last ≤ 64) }
+        ensures { result ≡ row_count self.first self.last }
+    {
+        if self.first == 0 {
+            return 0;
+        }
+        self.last + 1 - self.first
     }
-    u.last + 1 - u.first
 }
 
 // All named rows. At most 64 of at most 256 cells, so that no sum can wrap.
@@ -33,7 +35,7 @@ fn rows_size(w: usize, u: Update) -> usize
     ensures { result ≡ rows_size w (row_count u.first u.last) u.first }
 {
     let mut size = 0;
-    for i in 0..row_count(u) {
+    for i in 0..u.row_count() {
         size += spot_size(u.first + i, 1) + w;
     }
     size
@@ -88,7 +90,7 @@ pub fn put_rows(w: usize, u: Update, screen: &[u8], out: &mut [u8], at: usize) -
     ensures { Wrote at (sent_rows w u.first u.last screen.now) out.old result out.new }
 {
     let mut next = at;
-    for i in 0..row_count(u) {
+    for i in 0..u.row_count() {
         next = put_row(w, u.first - 1 + i, screen, out, next);
     }
     next
