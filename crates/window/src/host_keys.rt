@@ -5,6 +5,8 @@ ghost use Rattle.window.specs.Rules.Host.{none, direction_from, action_from, pla
 use editor::{Action, Key, Place};
 use gap::Direction;
 
+// A table for each enum: a trait of the three would have the same tables, and `TryFrom` belongs to the enums' own crates, which know no
+// numbers.
 fn direction_of(d: usize) -> Option<Direction>
     ensures { result ≡ cond (leb d 1) (Some (direction_from d)) None }
 {
@@ -59,12 +61,14 @@ fn named_key(kind: usize, a: usize, b: usize, c: usize) -> Option<Key>
     }
 }
 
+// The same, or an insert that is refused.
 pub fn key_from(kind: usize, a: usize, b: usize, c: usize) -> Key
     ensures { result ≡ key_from kind a b c }
 {
     named_key(kind, a, b, c).unwrap_or(Key::Insert(0))
 }
 
+// The function key that three numbers name, or that insert.
 #[tactic(auto, unfolding(crate::specs::Rules::Host::key_from))]
 pub fn function_key(a: usize, d: usize, p: usize) -> Key
     ensures { result ≡ function_from a d p }

@@ -1,5 +1,6 @@
 // The painter: the text is gone over once from the window's first line on, each cell is written once, and the changed rows are found on
-// the way.
+// the way. Frame, pen and screen go on one by one: a value that held the lent screen would promise of each step, besides, that it is still
+// the same screen (as in writer.rt), where here one equation says it all.
 ghost use Rattle.std.specs.Prelude.{◌≡◌, true, false, ◌<◌, length, map};
 ghost use Rattle.gap.specs.Rules.Lines.{newlines};
 ghost use Rattle.window.specs.Wording.Painter.{above, paint, finish_paint, begun, Easel, Canvas, sheet, LineStart};
@@ -20,7 +21,8 @@ const FRESH: Pen = Pen {
     named: None,
 };
 
-// A text from the window's first line on, run by run, until it ends or the window does.
+// A text from the window's first line on, run by run, until it ends or the window does. The library's `split` would look for the newlines
+// byte by byte: with lines of 128 bytes or 1,024 it took ten times as long as `end_at`.
 fn draw(f: Frame, pen: Pen, t: &[u8], screen: &mut [u8]) -> Pen
     requires easel { Easel f (length t.now) (sheet pen screen.old) }
     requires pen_value { above f pen ≡ false }

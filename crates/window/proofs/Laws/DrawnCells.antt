@@ -108,9 +108,6 @@ module _ {f : Frame} {pen : Pen} {screen : List ℕ} (asked : Easel f 1 (sheet p
   pub few-left : left ≤ 256
   few-left = omega (arith, asked.0.columns, edge.left)
 
-  pub rest-fits : (at + left ≤ length screen) × (length screen ≤ 16384)
-  rest-fits = cells_fit asked cell edge.left edge.right (omega arith)
-
   pub row-ended : {q : Pen} {back : List ℕ} {changed : Bool} → back ≡ row_of_blanks
       → changed ≡ not (same_bytes rest row_of_blanks) → q ≡ pen_below f pen (pen.changed || changed)
       → sheet q (part_back at (at + left) screen back) ≡ line_end f (sheet pen screen)
