@@ -2,8 +2,9 @@
 ghost use Rattle.std.specs.Prelude.{◌≡◌, not, true, false, ◌+◌, ◌-◌, ◌^◌, ◌≤◌, ◌<◌, length, eqb};
 ghost use Rattle.gap.specs.Rules.Sequence.{every, same_bytes};
 ghost use Rattle.gap.specs.Rules.Lines.{newline};
-ghost use Rattle.window.specs.Wording.Painter.{above, over, cell_of, OnRow, with_row, pen_below, line_end, paint, Easel, sheet};
+ghost use Rattle.window.specs.Wording.Painter.{above, over, cell_of, OnRow, with_row, pen_below, line_end, paint, Easel, sheet_of, with_sheet};
 
+use crate::painter::Painter;
 use crate::{Frame, Pen, Rows};
 
 // A row of blanks, as wide as a screen can be.
@@ -28,29 +29,6 @@ fn cell_at(f: Frame, pen: Pen, column: usize) -> usize
     ensures { result ≡ cell_of f pen column }
 {
     (pen.y - f.r) * f.w + (column - f.c)
-}
-
-// A run without newline, in a row of the window: what lies between column c and c + W is written in one go.
-pub fn draw_run(f: Frame, pen: Pen, run: &[u8], screen: &mut [u8]) -> Pen
-    requires run_value { every (λ b. not (eqb b newline)) run.now ≡ true }
-    requires easel { Easel f (length run.now) (sheet pen screen.old) }
-    requires pen_value { (above f pen ≡ false) × (over f pen ≡ false) }
-    ensures { sheet result screen.new ≡ paint f run.now (sheet pen screen.old) }
-{
-    let end = pen.x + run.len();
-    let low = f.c.max(pen.x);
-    let high = (f.c + f.w).min(end);
-    if high <= low {
-        return Pen { x: end, ..pen };
-    }
-    let at = cell_at(f, pen, low);
-    let stop = at + (high - low);
-    let changed = put_run(&mut screen[at..stop], &run[low - pen.x..high - pen.x]);
-    Pen {
-        x: end,
-        changed: pen.changed | changed,
-        ..pen
-    }
 }
 
 // The rows named so far, and a row below them.
@@ -85,17 +63,45 @@ fn next_line(f: Frame, pen: Pen, changed: bool) -> Pen
     }
 }
 
-// The end of a line in a row of the window: blanks to the right edge.
-pub fn end_row(f: Frame, pen: Pen, screen: &mut [u8]) -> Pen
-    requires easel { Easel f 1 (sheet pen screen.old) }
-    requires pen_value { (above f pen ≡ false) × (over f pen ≡ false) }
-    ensures { sheet result screen.new ≡ line_end f (sheet pen screen.old) }
-{
-    let edge = f.c + f.w;
-    let low = f.c.max(pen.x).min(edge);
-    let left = edge - low;
-    let at = cell_at(f, pen, low);
-    let stop = at + left;
-    let changed = put_run(&mut screen[at..stop], &BLANKS[..left]);
-    next_line(f, pen, pen.changed | changed)
+impl<'a> Painter<'a> {
+    // A run without newline, in a row of the window: what lies between column c and c + W is written in one go.
+    pub fn draw_run(&mut self, run: &[u8])
+        requires run_value { every (λ b. not (eqb b newline)) run.now ≡ true }
+        requires easel { Easel self.old.frame (length run.now) (sheet_of self.old) }
+        requires pen_value { (above self.old.frame self.old.pen ≡ false) × (over self.old.frame self.old.pen ≡ false) }
+        ensures { self.new ≡ with_sheet self.old (paint self.old.frame run.now (sheet_of self.old)) }
+    {
+        let f = self.frame;
+        let pen = self.pen;
+        let end = pen.x + run.len();
+        let low = f.c.max(pen.x);
+        let high = (f.c + f.w).min(end);
+        self.pen.x = end;
+        if high <= low {
+            return;
+        }
+        let at = cell_at(f, pen, low);
+        let stop = at + (high - low);
+        let screen = &mut *self.screen;
+        let changed = put_run(&mut screen[at..stop], &run[low - pen.x..high - pen.x]);
+        self.pen.changed |= changed;
+    }
+
+    // The end of a line in a row of the window: blanks to the right edge.
+    pub fn end_row(&mut self)
+        requires easel { Easel self.old.frame 1 (sheet_of self.old) }
+        requires pen_value { (above self.old.frame self.old.pen ≡ false) × (over self.old.frame self.old.pen ≡ false) }
+        ensures { self.new ≡ with_sheet self.old (line_end self.old.frame (sheet_of self.old)) }
+    {
+        let f = self.frame;
+        let pen = self.pen;
+        let edge = f.c + f.w;
+        let low = f.c.max(pen.x).min(edge);
+        let left = edge - low;
+        let at = cell_at(f, pen, low);
+        let stop = at + left;
+        let screen = &mut *self.screen;
+        let changed = put_run(&mut screen[at..stop], &BLANKS[..left]);
+        self.pen = next_line(f, pen, pen.changed | changed);
+    }
 }

@@ -1,5 +1,5 @@
-// A writer holds the lent buffer and its fill mark, and hands both to the plain functions on the slice and the index; `write_screen`, with
-// plain parameters, serves every caller.
+// A writer holds the lent buffer and its fill mark, and hands both to the plain functions on the slice and the index; `write_screen`, with a
+// plain buffer, serves every caller.
 ghost use Rattle.std.specs.Prelude.{◌≡◌, ◌++◌, ◌+◌, ◌≤◌, length};
 ghost use Rattle.gap.specs.Wording.Written.{Wrote};
 ghost use Rattle.window.specs.Rules.Sequences.{sent_spot, sent_rows};
@@ -18,18 +18,16 @@ pub struct Writer<'a> {
 impl<'a> Writer<'a> {
     // An empty writer: the mark stands at the front.
     fn at_front(out: &'a mut [u8]) -> Writer<'a>
-        ensures same_reference { result.out.ghost_name ≡ out.entry.ghost_name }
-        ensures empty { (result.out ≡ out.entry) × (result.at ≡ 0) }
+        ensures { (result.out ≡ out.entry) × (result.at ≡ 0) }
     {
         Writer { out, at: 0 }
     }
 
-    // The named rows go behind what the writer holds. That it holds the same reference afterwards is what ties the buffer to the writer.
+    // The named rows go behind what the writer holds. It holds the same reference afterwards, which ties the buffer to the writer.
     fn with_rows(&mut self, w: usize, u: Update, screen: &[u8])
         requires rows_in { RowsIn w u.first u.last screen.now }
         requires screen_in_bounds { self.old.at + length (sent_rows w u.first u.last screen.now) ≤ length self.old.out.now }
-        ensures same_reference { self.new.out.ghost_name ≡ self.old.out.ghost_name }
-        ensures with_the_rows { self.new ≡ filled self.old (sent_rows w u.first u.last screen.now) }
+        ensures { self.new ≡ filled self.old (sent_rows w u.first u.last screen.now) }
     {
         let at = self.at;
         self.at = put_rows(w, u, screen, &mut *self.out, at);

@@ -5,7 +5,7 @@ use mathlib.Core.List.{List, [], ◌∷◌, ◌++◌}
 use Prim.Native.Nat.{ℕ, suc, ◌+◌, ◌-◌, ◌≤◌, ◌<◌}
 use native.Mathlib.Numerals.{add-one}
 use native.Mathlib.Omega.{arith}
-use lib.ListN.{length, drop, get_or, take-append-drop}
+use lib.ListN.{length, drop, get_or, take-append-drop, drop_of_length-le}
 use lib.Seq.{drop-cons, drop-drop}
 use borrow.Author.Tests.{ltb-false, le-ltb, le-leb, lt-leb}
 use borrow.Rule.Slice.PartMut.{mid_of}
@@ -46,6 +46,10 @@ drawn-in-row so_far bottom = record { drawn = so_far; bottom = rw so_far.line bo
 module _ {f : Frame} {t : List ℕ} {first : Sheet} {y i : ℕ} {p : Sheet} where
   pub drawn-over : Drawn f t first y i p → f.r + f.h ≤ y → p ≡ paint f t first
   drawn-over so_far low = sym (so_far.rest ∙ paint-over f p (le-leb (f.r + f.h) p.pen.y (rw so_far.line low)) (drop i t))
+
+  pub drawn-all : Drawn f t first y i p → length t ≤ i → p ≡ paint f t first
+  unfolding paint
+  drawn-all so_far end = sym (so_far.rest ∙ rw drop_of_length-le)
 
   module _ (so_far : DrawnInRow f t first y i p) where
     tests : Inside f p

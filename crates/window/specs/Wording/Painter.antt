@@ -8,6 +8,8 @@ use Rattle.gap.specs.Rules.Doc.{times}
 use Rattle.gap.specs.Rules.Lines.{newline, newlines, since_after}
 use Rattle.window.specs.declared.Pen.{Pen}
 use Rattle.window.specs.declared.Rows.{Rows}
+use Rattle.window.specs.declared.painter.Painter.{Painter}
+use denote.Ref.{at_last}
 
 -- The pen, which is at a line and a column of the text, both from 0, and the screen.
 pub record Sheet : Type 0 where
@@ -129,9 +131,17 @@ pub record Canvas (f : Frame) (n : ℕ) (screen : List ℕ) : Type 0 where
   pub offsets : (f.r ≤ 2 ^ 40) × (f.c ≤ 2 ^ 40)
   pub short : n ≤ 2 ^ 20
 
--- A painting function does with a text what the definition does: pen and screen are determined.
+-- Pen and screen as one value.
 abbrev pub sheet : Pen → List ℕ → Sheet
 sheet pen screen = record { pen = pen; screen = screen }
+
+-- Those of a painter, and the painter with others in their place: its window stays, and the reference to the lent screen. A painting function
+-- does with a text what the definition does: pen and screen are determined.
+abbrev pub sheet_of : Painter → Sheet
+sheet_of t = sheet t.pen t.screen.now
+
+abbrev pub with_sheet : Painter → Sheet → Painter
+with_sheet t p = record { screen = at_last t.screen p.screen; frame = t.frame; pen = p.pen }
 
 -- Index at is the start of a line, with k newlines behind it.
 pub record LineStart (t : List ℕ) (k at : ℕ) : Type 0 where
