@@ -9,6 +9,7 @@ pub mod PaintedRun
 pub mod PaintedRows
 pub mod PaintedCells
 pub mod Painter
+pub mod Painters
 pub mod LineStarts
 pub mod Refresh
 pub mod DrawnCells

@@ -1,115 +1,77 @@
 // Keys from numbers: a kind and up to three numbers name one. What names none becomes an insert of byte 0, which is refused with KEY.
-ghost use Rattle.std.specs.Prelude.{◌≡◌};
-ghost use Rattle.window.specs.Rules.Host.{insert_from, direction_from, action_from, place_from, function_from, find_from, key_from};
+ghost use Rattle.std.specs.Prelude.{◌≡◌, cond, leb, unwrap_or};
+ghost use Rattle.window.specs.Rules.Host.{none, direction_from, action_from, place_from, function_from, key_from};
 
 use editor::{Action, Key, Place};
 use gap::Direction;
 
-fn insert_key(b: usize) -> Key
-    ensures { result ≡ insert_from b }
+// A table for each enum: a trait of the three would have the same tables, and `TryFrom` belongs to the enums' own crates, which know no
+// numbers.
+fn direction_of(d: usize) -> Option<Direction>
+    ensures { result ≡ cond (leb d 1) (Some (direction_from d)) None }
 {
-    if 255 < b {
-        return Key::Insert(0);
+    match d {
+        0 => Some(Direction::Left),
+        1 => Some(Direction::Right),
+        _ => None,
     }
-    Key::Insert(b as u8)
 }
 
-fn direction_of(d: usize) -> Direction
-    ensures { result ≡ direction_from d }
+fn action_of(a: usize) -> Option<Action>
+    ensures { result ≡ cond (leb a 1) (Some (action_from a)) None }
 {
-    if d == 1 {
-        return Direction::Right;
+    match a {
+        0 => Some(Action::Move),
+        1 => Some(Action::Delete),
+        _ => None,
     }
-    Direction::Left
 }
 
-fn action_of(a: usize) -> Action
-    ensures { result ≡ action_from a }
+fn place_of(p: usize) -> Option<Place>
+    ensures { result ≡ cond (leb p 4) (Some (place_from p)) None }
 {
-    if a == 1 {
-        return Action::Delete;
+    match p {
+        0 => Some(Place::Character),
+        1 => Some(Place::Word),
+        2 => Some(Place::LineBeginning),
+        3 => Some(Place::LineEnding),
+        4 => Some(Place::Document),
+        _ => None,
     }
-    Action::Move
 }
 
-fn place_of(p: usize) -> Place
-    ensures { result ≡ place_from p }
+// The key that a kind and three numbers name, if they name one.
+#[tactic(auto, unfolding(crate::specs::Rules::Host::key_from))]
+fn named_key(kind: usize, a: usize, b: usize, c: usize) -> Option<Key>
+    ensures { unwrap_or result none ≡ key_from kind a b c }
 {
-    if p == 1 {
-        return Place::Word;
+    match kind {
+        0 => Some(Key::Insert(u8::try_from(a).ok()?)),
+        1 => Some(Key::Function(action_of(a)?, direction_of(b)?, place_of(c)?)),
+        2 => Some(Key::Recall),
+        3 => Some(Key::Quote),
+        4 => Some(Key::Find(direction_of(a)?)),
+        5 => Some(Key::Replace),
+        6 => Some(Key::Mark),
+        7 => Some(Key::Cut),
+        8 => Some(Key::Paste),
+        9 => Some(Key::Newline),
+        10 => Some(Key::Tab),
+        _ => None,
     }
-    if p == 2 {
-        return Place::LineBeginning;
-    }
-    if p == 3 {
-        return Place::LineEnding;
-    }
-    if p == 4 {
-        return Place::Document;
-    }
-    Place::Character
 }
 
-pub fn function_key(a: usize, d: usize, p: usize) -> Key
-    ensures { result ≡ function_from a d p }
-{
-    if 1 < a {
-        return Key::Insert(0);
-    }
-    if 1 < d {
-        return Key::Insert(0);
-    }
-    if 4 < p {
-        return Key::Insert(0);
-    }
-    Key::Function(action_of(a), direction_of(d), place_of(p))
-}
-
-fn find_key(d: usize) -> Key
-    ensures { result ≡ find_from d }
-{
-    if 1 < d {
-        return Key::Insert(0);
-    }
-    Key::Find(direction_of(d))
-}
-
-// The key that a kind and three numbers name; what is none becomes an insert that is refused.
+// The same, or an insert that is refused.
 pub fn key_from(kind: usize, a: usize, b: usize, c: usize) -> Key
     ensures { result ≡ key_from kind a b c }
 {
-    if kind == 0 {
-        return insert_key(a);
-    }
-    if kind == 1 {
-        return function_key(a, b, c);
-    }
-    if kind == 2 {
-        return Key::Recall;
-    }
-    if kind == 3 {
-        return Key::Quote;
-    }
-    if kind == 4 {
-        return find_key(a);
-    }
-    if kind == 5 {
-        return Key::Replace;
-    }
-    if kind == 6 {
-        return Key::Mark;
-    }
-    if kind == 7 {
-        return Key::Cut;
-    }
-    if kind == 8 {
-        return Key::Paste;
-    }
-    if kind == 9 {
-        return Key::Newline;
-    }
-    if kind == 10 {
-        return Key::Tab;
-    }
-    Key::Insert(0)
+    named_key(kind, a, b, c).unwrap_or(Key::Insert(0))
+}
+
+// The function key that three numbers name, or that insert.
+#[tactic(auto, unfolding(crate::specs::Rules::Host::key_from))]
+pub fn function_key(a: usize, d: usize, p: usize) -> Key
+    ensures { result ≡ function_from a d p }
+{
+    key_from(1, a, d, p)
 }

@@ -21,6 +21,7 @@ pub struct Heard {
     pub c: usize,
 }
 
+// A table for each enum, as in host_keys.rt.
 fn action_number(action: Action) -> usize
     ensures { result ≡ action_number action }
 {
@@ -56,14 +57,15 @@ fn heard_numbers(used: usize, kind: usize, a: usize, b: usize, c: usize) -> Hear
 {
     Heard {
         code: 0,
-        used: used,
-        kind: kind,
-        a: a,
-        b: b,
-        c: c,
+        used,
+        kind,
+        a,
+        b,
+        c,
     }
 }
 
+#[tactic(auto, unfolding(crate::specs::Rules::Receiving::heard_key))]
 fn heard_key(k: Key, used: usize) -> Heard
     ensures { result ≡ heard_key k used }
 {
@@ -89,6 +91,7 @@ fn heard_key(k: Key, used: usize) -> Heard
 }
 
 // The first key of the bytes received so far; or that more are needed; or SEQUENCE.
+#[tactic(auto, unfolding(crate::specs::Rules::Receiving::heard_of))]
 pub fn chidukwore_receive(bytes: &[u8]) -> Heard
     ensures { result ≡ heard_of (received bytes.now) }
 {
@@ -96,8 +99,8 @@ pub fn chidukwore_receive(bytes: &[u8]) -> Heard
         Received::Pressed(k, used) => heard_key(k, used),
         Received::More => heard_numbers(0, 0, 0, 0, 0),
         Received::Refused(code, used) => Heard {
-            code: code,
-            used: used,
+            code,
+            used,
             kind: 0,
             a: 0,
             b: 0,

@@ -45,8 +45,7 @@ pub struct Pen {
     pub y: usize,
     pub x: usize,
     pub changed: bool,
-    pub first: usize,
-    pub last: usize,
+    pub named: Option<Rows>,
 }
 
 // The named rows, first and last.

@@ -1,167 +1,144 @@
 // The painter: the text is gone over once from the window's first line on, each cell is written once, and the changed rows are found on
-// the way.
-ghost use Rattle.std.specs.Prelude.{◌≡◌, true, false, ◌+◌, ◌-◌, ◌≤◌, ◌<◌, length, [], ◌∷◌};
-ghost use Rattle.gap.specs.Rules.Lines.{newline, newlines};
-ghost use Rattle.window.specs.Wording.Painter.{above, paint, finish_paint, begun, Easel, Canvas, sheet, LineStart};
+// the way. A painter holds the lent screen; each step leaves it the same but for pen and cells, which ties the screen to the painter.
+ghost use Rattle.std.specs.Prelude.{◌≡◌, true, false, ◌<◌, length, map, unwrap_or};
+ghost use Rattle.gap.specs.Rules.Lines.{newlines};
+ghost use Rattle.window.specs.Wording.Painter.{above, paint, finish_paint, begun, Easel, Canvas, sheet_of, with_sheet, no_rows, LineStart};
 ghost use Rattle.gap.specs.Rules.Doc.{content};
-ghost use Rattle.gap.specs.Rules.Layout.{ungap};
-ghost use Rattle.editor.specs.declared.Mode.TheVariants.{Quoted};
-ghost use Rattle.window.specs.Rules.Window.{virtual_in, visible};
+ghost use Rattle.window.specs.Rules.Window.{joined, visible};
 ghost use Rattle.window.specs.Wording.Calls.{Texts, virtual_held, Refreshed};
 
-use crate::cells::{draw_run, end_row, fresh};
 use crate::{Frame, Pen, Rows};
 use editor::{Lengths, Mode, QUARTER};
 use gap::lines::{count_newlines, end_at, since_newline};
 
-// A text from the window's first line on, run by run, until it ends or the window does.
-fn draw(f: Frame, pen: Pen, t: &[u8], screen: &mut [u8]) -> Pen
-    requires easel { Easel f (length t.now) (sheet pen screen.old) }
-    requires pen_value { above f pen ≡ false }
-    ensures { sheet result screen.new ≡ paint f t.now (sheet pen screen.old) }
-{
-    let n = t.len();
-    let bottom = f.r + f.h;
-    let mut now = pen;
-    let mut i = 0;
-    while i < n {
-        let y = now.y;
-        if bottom <= y {
-            return now;
-        }
-        let e = end_at(t, i);
-        let drawn = draw_run(f, now, &t[i..e], screen);
-        if n <= e {
-            return drawn;
-        }
-        now = end_row(f, drawn, screen);
-        i = e + 1;
-    }
-    now
+// The lent screen, the window that is painted on it, and the pen.
+#[derive(Drop)]
+pub struct Painter<'a> {
+    pub screen: &'a mut [u8],
+    pub frame: Frame,
+    pub pen: Pen,
 }
+
+// A pen before any text.
+const FRESH: Pen = Pen {
+    y: 0,
+    x: 0,
+    changed: false,
+    named: None,
+};
 
 // Where the line starts that has k newlines behind it.
 fn line_start(t: &[u8], k: usize) -> usize
     requires { k < newlines t.now }
     ensures { LineStart t.now k result }
 {
-    let mut left = k;
     let mut end = t.len();
-    while 0 < left {
+    for _i in 0..k {
         end = end - since_newline(0, &t[..end]) - 1;
-        left -= 1;
     }
     end - since_newline(0, &t[..end])
 }
 
-// A piece of the text, wherever the pen is: what lies above the window is only counted.
-fn paint_piece(f: Frame, pen: Pen, t: &[u8], screen: &mut [u8]) -> Pen
-    requires { Easel f (length t.now) (sheet pen screen.old) }
-    ensures { sheet result screen.new ≡ paint f t.now (sheet pen screen.old) }
-{
-    let r = f.r;
-    let y = pen.y;
-    if r <= y {
-        return draw(f, pen, t, screen);
+impl<'a> Painter<'a> {
+    // Before any text.
+    fn at_first(f: Frame, screen: &'a mut [u8]) -> Painter<'a>
+        ensures { (result.screen ≡ screen.entry) × ((result.frame ≡ f) × (sheet_of result ≡ begun screen.entry.now)) }
+    {
+        Painter {
+            screen,
+            frame: f,
+            pen: FRESH,
+        }
     }
-    let below = y + count_newlines(t);
-    if below < r {
-        return Pen {
-            y: below,
-            x: since_newline(pen.x, t),
-            changed: pen.changed,
-            first: pen.first,
-            last: pen.last,
-        };
+
+    // A text from the window's first line on, run by run, until it ends or the window does. The library's `split` would look for the newlines
+    // byte by byte: with lines of 128 bytes or 1,024 it took ten times as long as `end_at`.
+    fn draw(&mut self, t: &[u8])
+        requires easel { Easel self.old.frame (length t.now) (sheet_of self.old) }
+        requires pen_value { above self.old.frame self.old.pen ≡ false }
+        ensures { self.new ≡ with_sheet self.old (paint self.old.frame t.now (sheet_of self.old)) }
+    {
+        let mut i = 0;
+        for _y in self.pen.y..self.frame.r + self.frame.h {
+            let e = end_at(t, i);
+            self.draw_run(&t[i..e]);
+            if t.len() <= e {
+                return;
+            }
+            self.end_row();
+            i = e + 1;
+        }
     }
-    let at = line_start(t, below - r);
-    let top = Pen {
-        y: r,
-        x: 0,
-        changed: pen.changed,
-        first: pen.first,
-        last: pen.last,
-    };
-    draw(f, top, &t[at..], screen)
-}
 
-// The rows below the text: blank.
-fn finish(f: Frame, pen: Pen, screen: &mut [u8]) -> Pen
-    requires easel { Easel f 65 (sheet pen screen.old) }
-    requires pen_value { above f pen ≡ false }
-    ensures { sheet result screen.new ≡ finish_paint f (sheet pen screen.old) }
-{
-    let bottom = f.r + f.h;
-    let mut now = pen;
-    let mut y = pen.y;
-    while y < bottom {
-        now = end_row(f, now, screen);
-        y += 1;
+    // A piece of the text, wherever the pen is: what lies above the window is only counted.
+    fn paint_piece(&mut self, t: &[u8])
+        requires { Easel self.old.frame (length t.now) (sheet_of self.old) }
+        ensures { self.new ≡ with_sheet self.old (paint self.old.frame t.now (sheet_of self.old)) }
+    {
+        let top = self.frame.r;
+        if top <= self.pen.y {
+            self.draw(t);
+            return;
+        }
+        let below = self.pen.y + count_newlines(t);
+        if below < top {
+            self.pen.y = below;
+            self.pen.x = since_newline(self.pen.x, t);
+            return;
+        }
+        let at = line_start(t, below - top);
+        self.pen.y = top;
+        self.pen.x = 0;
+        self.draw(&t[at..]);
     }
-    now
-}
 
-// The line break and the mark that begin a quotation, and the line break that ends it.
-fn open_quotation(f: Frame, pen: Pen, screen: &mut [u8]) -> Pen
-    requires { Easel f 2 (sheet pen screen.old) }
-    ensures { sheet result screen.new ≡ paint f (newline ∷ 62 ∷ []) (sheet pen screen.old) }
-{
-    let mark = [10u8, 62u8];
-    paint_piece(f, pen, &mark, screen)
-}
+    // The pieces of a text, one behind the other.
+    fn paint_pieces(&mut self, pieces: &[&[u8]])
+        requires { Easel self.old.frame (length (joined (map (λ p. p.now) pieces.now))) (sheet_of self.old) }
+        ensures { self.new ≡ with_sheet self.old (paint self.old.frame (joined (map (λ p. p.now) pieces.now)) (sheet_of self.old)) }
+    {
+        for piece in pieces {
+            self.paint_piece(*piece);
+        }
+    }
 
-fn close_quotation(f: Frame, pen: Pen, screen: &mut [u8]) -> Pen
-    requires { Easel f 1 (sheet pen screen.old) }
-    ensures { sheet result screen.new ≡ paint f (newline ∷ []) (sheet pen screen.old) }
-{
-    let mark = [10u8];
-    paint_piece(f, pen, &mark, screen)
-}
+    // The virtual text. In QUOTED the quotation's two texts stand between the document's, on lines of their own behind the mark.
+    fn paint_text(&mut self, n: Lengths, text: &[u8], side: &[u8])
+        requires texts { Texts n text.now side.now }
+        requires canvas { Canvas self.old.frame (length text.now) self.old.screen.now }
+        requires fresh { sheet_of self.old ≡ begun self.old.screen.now }
+        ensures { self.new
+            ≡ with_sheet self.old (paint self.old.frame (content (virtual_held n text.now side.now)) (sheet_of self.old)) }
+    {
+        let left = &text[..n.main.l];
+        let right = &text[text.len() - n.main.r..];
+        match n.mode {
+            Mode::Main => self.paint_pieces(&[left, right]),
+            Mode::Quoted => {
+                let quarter = &side[..QUARTER];
+                let before = &quarter[..n.quoted.l];
+                let behind = &quarter[quarter.len() - n.quoted.r..];
+                self.paint_pieces(&[left, b"\n>", before, behind, b"\n", right]);
+            }
+        }
+    }
 
-// The virtual text in MAIN, from the first byte on.
-fn paint_main(f: Frame, text: &[u8], l: usize, r: usize, screen: &mut [u8]) -> Pen
-    requires canvas { Canvas f (length text.now) screen.old }
-    requires r_in_bounds { l + r ≤ length text.now }
-    ensures { sheet result screen.new ≡ paint f (content (ungap l r text.now)) (begun screen.old) }
-{
-    let back = text.len() - r;
-    let left = paint_piece(f, fresh(), &text[..l], screen);
-    paint_piece(f, left, &text[back..], screen)
-}
+    // The rows below the text: blank.
+    fn finish(&mut self)
+        requires easel { Easel self.old.frame 65 (sheet_of self.old) }
+        requires pen_value { above self.old.frame self.old.pen ≡ false }
+        ensures { self.new ≡ with_sheet self.old (finish_paint self.old.frame (sheet_of self.old)) }
+    {
+        for _y in self.pen.y..self.frame.r + self.frame.h {
+            self.end_row();
+        }
+    }
 
-// The virtual text in QUOTED: the quotation's two texts, q and s bytes long, stand between the document's.
-fn paint_quoted(
-    f: Frame,
-    text: &[u8],
-    l: usize,
-    r: usize,
-    quarter: &[u8],
-    q: usize,
-    s: usize,
-    screen: &mut [u8],
-) -> Pen
-    requires canvas { Canvas f (length text.now + length quarter.now) screen.old }
-    requires r_in_bounds { (l + r ≤ length text.now) × (q + s ≤ length quarter.now) }
-    ensures { sheet result screen.new
-        ≡ paint f (content (virtual_in Quoted (ungap l r text.now) (ungap q s quarter.now))) (begun screen.old) }
-{
-    let back = text.len() - r;
-    let behind = quarter.len() - s;
-    let left = paint_piece(f, fresh(), &text[..l], screen);
-    let opened = open_quotation(f, left, screen);
-    let before = paint_piece(f, opened, &quarter[..q], screen);
-    let after = paint_piece(f, before, &quarter[behind..], screen);
-    let closed = close_quotation(f, after, screen);
-    paint_piece(f, closed, &text[back..], screen)
-}
-
-// The rows that a pen has named.
-fn named_rows(pen: Pen) -> Rows
-    ensures { result ≡ record { first = pen.first; last = pen.last } }
-{
-    Rows {
-        first: pen.first,
-        last: pen.last,
+    // The rows that it has named, as a call answers them: 0 and 0 for none. (`self.exit.0` is the screen as it is left.)
+    fn named_rows(self) -> Rows
+        ensures { (result ≡ unwrap_or self.entry.pen.named no_rows) × (self.exit.0.now ≡ self.entry.screen.now) }
+    {
+        self.pen.named.unwrap_or(Rows { first: 0, last: 0 })
     }
 }
 
@@ -171,26 +148,8 @@ pub fn refresh(n: Lengths, f: Frame, text: &[u8], side: &[u8], screen: &mut [u8]
     requires canvas { (Canvas f (length text.now) screen.old) × (visible f (virtual_held n text.now side.now) ≡ true) }
     ensures { Refreshed f (virtual_held n text.now side.now) screen.old result screen.new }
 {
-    let main = n.main;
-    let quoted = n.quoted;
-    let mode = n.mode;
-    match mode {
-        Mode::Main => {
-            let pen = paint_main(f, text, main.l, main.r, screen);
-            named_rows(finish(f, pen, screen))
-        }
-        Mode::Quoted => {
-            let pen = paint_quoted(
-                f,
-                text,
-                main.l,
-                main.r,
-                &side[..QUARTER],
-                quoted.l,
-                quoted.r,
-                screen,
-            );
-            named_rows(finish(f, pen, screen))
-        }
-    }
+    let mut painter = Painter::at_first(f, screen);
+    painter.paint_text(n, text, side);
+    painter.finish();
+    painter.named_rows()
 }

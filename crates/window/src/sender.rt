@@ -22,28 +22,29 @@ pub struct Update {
     pub column: usize,
 }
 
-// The named rows are rows of the screen in their order, or none.
-fn rows_on(h: usize, first: usize, last: usize) -> bool
-    ensures { result ≡ rows_on h first last }
-{
-    ((first == 0) & (last == 0)) | ((1 <= first) & ((first <= last) & (last <= h)))
-}
+impl Update {
+    // The named rows are rows of the screen in their order, or none.
+    fn rows_on(self, h: usize) -> bool
+        ensures { result ≡ rows_on h self.first self.last }
+    {
+        (self.first == 0 && self.last == 0)
+            || (1 <= self.first && self.first <= self.last && self.last <= h)
+    }
 
-// The cursor is on the screen, or behind the last cell of a row.
-fn cursor_on(h: usize, w: usize, row: usize, column: usize) -> bool
-    ensures { result ≡ cursor_on h w row column }
-{
-    (1 <= row) & ((row <= h) & (column <= w))
+    // The cursor is on the screen, or behind the last cell of a row.
+    fn cursor_on(self, h: usize, w: usize) -> bool
+        ensures { result ≡ cursor_on h w self.row self.column }
+    {
+        1 <= self.row && self.row <= h && self.column <= w
+    }
 }
 
 // All sizes are right. H and W are known to be small before they are multiplied.
+#[tactic(auto, unfolding(crate::specs::Rules::Sending::sendable))]
 fn is_sendable(h: usize, w: usize, u: Update, screen: &[u8]) -> bool
     ensures { result ≡ sendable h w u.first u.last u.row u.column screen.now }
 {
-    if !rows_and_columns(h, w) {
-        return false;
-    }
-    (screen.len() == h * w) & (rows_on(h, u.first, u.last) & cursor_on(h, w, u.row, u.column))
+    rows_and_columns(h, w) && screen.len() == h * w && u.rows_on(h) && u.cursor_on(h, w)
 }
 
 // A refusal.
@@ -52,7 +53,7 @@ fn unsent(why: Refusal, place: usize) -> Sending
 {
     Sending {
         code: why.number(),
-        place: place,
+        place,
         count: 0,
     }
 }
@@ -63,16 +64,15 @@ fn send_counted(w: usize, u: Update, screen: &[u8], out: &mut [u8]) -> Sending
     ensures { outcome_of result out.new
         ≡ sent_into (sent_screen w u.first u.last u.row u.column screen.now) out.old }
 {
-    let size = sent_size(w, u.first, u.last, u.row, u.column);
-    if out.len() < size {
+    if out.len() < sent_size(w, u) {
         return unsent(Refusal::Room, 0);
     }
     let column = sent_column(w, u.column);
-    let count = write_screen(w, u.first, u.last, u.row, column, screen, out);
+    let count = write_screen(w, Update { column, ..u }, screen, out);
     Sending {
         code: 0,
         place: 0,
-        count: count,
+        count,
     }
 }
 

@@ -4,6 +4,7 @@ ghost use Rattle.gap.specs.Wording.Written.{Wrote};
 ghost use Rattle.window.specs.Rules.Sequences.{sent_spot, sent_row, sent_rows, row_count, sent_column};
 ghost use Rattle.window.specs.Wording.Writing.{RowsIn, rows_size, sent_size};
 
+use crate::sender::Update;
 use gap::decimals::{decimal_size, put_decimal};
 use gap::writers::put;
 
@@ -15,28 +16,27 @@ pub fn spot_size(row: usize, column: usize) -> usize
     4 + decimal_size(row) + decimal_size(column)
 }
 
-// How many rows are named.
-fn row_count(first: usize, last: usize) -> usize
-    requires { (first ≤ last) × (last ≤ 64) }
-    ensures { result ≡ row_count first last }
-{
-    if first == 0 {
-        return 0;
+impl Update {
+    // How many rows are named: none if the first is 0.
+    fn row_count(self) -> usize
+        requires { (self.first ≤ self.last) × (self.last ≤ 64) }
+        ensures { result ≡ row_count self.first self.last }
+    {
+        if self.first == 0 {
+            return 0;
+        }
+        self.last + 1 - self.first
     }
-    last + 1 - first
 }
 
 // All named rows. At most 64 of at most 256 cells, so that no sum can wrap.
-fn rows_size(w: usize, first: usize, last: usize) -> usize
-    requires { (first ≤ last) × (last ≤ 64) × (w ≤ 256) }
-    ensures { result ≡ rows_size w (row_count first last) first }
+fn rows_size(w: usize, u: Update) -> usize
+    requires { (u.first ≤ u.last) × (u.last ≤ 64) × (w ≤ 256) }
+    ensures { result ≡ rows_size w (row_count u.first u.last) u.first }
 {
-    let rows = row_count(first, last);
     let mut size = 0;
-    let mut i = 0;
-    while i < rows {
-        size += spot_size(first + i, 1) + w;
-        i += 1;
+    for i in 0..u.row_count() {
+        size += spot_size(u.first + i, 1) + w;
     }
     size
 }
@@ -52,11 +52,11 @@ pub fn sent_column(w: usize, column: usize) -> usize
 }
 
 // The named rows and the cursor's spot.
-pub fn sent_size(w: usize, first: usize, last: usize, row: usize, column: usize) -> usize
-    requires { (first ≤ last) × (last ≤ 64) × (w ≤ 256) }
-    ensures { result ≡ sent_size w first last row column }
+pub fn sent_size(w: usize, u: Update) -> usize
+    requires { (u.first ≤ u.last) × (u.last ≤ 64) × (w ≤ 256) }
+    ensures { result ≡ sent_size w u.first u.last u.row u.column }
 {
-    rows_size(w, first, last) + spot_size(row, sent_column(w, column))
+    rows_size(w, u) + spot_size(u.row, sent_column(w, u.column))
 }
 
 // ---- Written
@@ -84,24 +84,14 @@ fn put_row(w: usize, above: usize, screen: &[u8], out: &mut [u8], at: usize) -> 
 }
 
 // The named rows, one behind the other.
-pub fn put_rows(
-    w: usize,
-    first: usize,
-    last: usize,
-    screen: &[u8],
-    out: &mut [u8],
-    at: usize,
-) -> usize
-    requires rows_in { RowsIn w first last screen.now }
-    requires screen_in_bounds { at + length (sent_rows w first last screen.now) ≤ length out.old }
-    ensures { Wrote at (sent_rows w first last screen.now) out.old result out.new }
+pub fn put_rows(w: usize, u: Update, screen: &[u8], out: &mut [u8], at: usize) -> usize
+    requires rows_in { RowsIn w u.first u.last screen.now }
+    requires screen_in_bounds { at + length (sent_rows w u.first u.last screen.now) ≤ length out.old }
+    ensures { Wrote at (sent_rows w u.first u.last screen.now) out.old result out.new }
 {
-    let rows = row_count(first, last);
     let mut next = at;
-    let mut i = 0;
-    while i < rows {
-        next = put_row(w, first - 1 + i, screen, out, next);
-        i += 1;
+    for i in 0..u.row_count() {
+        next = put_row(w, u.first - 1 + i, screen, out, next);
     }
     next
 }

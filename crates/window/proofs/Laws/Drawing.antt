@@ -26,35 +26,32 @@ split_at i e t later =
     let onward : drop (e - i) (drop i t) ≡ drop e t = rw (drop-drop, behind) in
     sym (rw (← onward) (take-append-drop (e - i) (drop i t)))
 
--- A text was drawn up to index i: what is left of it decides.
-pub record Drawn (f : Frame) (t : List ℕ) (first : Sheet) (i : ℕ) (p : Sheet) : Type 0 where
+-- A text was drawn up to index i, and the pen is at line y: what is left of it decides.
+pub record Drawn (f : Frame) (t : List ℕ) (first : Sheet) (y i : ℕ) (p : Sheet) : Type 0 where
+  pub line : p.pen.y ≡ y
   pub within : i ≤ length t
   pub easel : Easel f (length t - i) p
   pub top : above f p.pen ≡ false
   pub rest : paint f t first ≡ paint f (drop i t) p
 
 -- The same with the pen in a row of the window.
-pub record DrawnInRow (f : Frame) (t : List ℕ) (first : Sheet) (i : ℕ) (p : Sheet) : Type 0 where
-  pub drawn : Drawn f t first i p
+pub record DrawnInRow (f : Frame) (t : List ℕ) (first : Sheet) (y i : ℕ) (p : Sheet) : Type 0 where
+  pub drawn : Drawn f t first y i p
   pub bottom : p.pen.y < f.r + f.h
 
-pub drawn-in-row : {f : Frame} {t : List ℕ} {first : Sheet} {i : ℕ} {p : Sheet} → Drawn f t first i p → p.pen.y < f.r + f.h
-    → DrawnInRow f t first i p
-drawn-in-row so_far bottom = record { drawn = so_far; bottom = bottom }
+pub drawn-in-row : {f : Frame} {t : List ℕ} {first : Sheet} {y i : ℕ} {p : Sheet} → Drawn f t first y i p → y < f.r + f.h
+    → DrawnInRow f t first y i p
+drawn-in-row so_far bottom = record { drawn = so_far; bottom = rw so_far.line bottom }
 
-pub drawn-none : {f : Frame} {t : List ℕ} {p : Sheet} → Easel f (length t) p → above f p.pen ≡ false → Drawn f t p 0 p
-drawn-none {f} {t} {p} easel top =
-    record { within = omega arith; easel = easel-less f (length t) (length t - 0) p (omega arith) easel; top = top; rest = refl }
+module _ {f : Frame} {t : List ℕ} {first : Sheet} {y i : ℕ} {p : Sheet} where
+  pub drawn-over : Drawn f t first y i p → f.r + f.h ≤ y → p ≡ paint f t first
+  drawn-over so_far low = sym (so_far.rest ∙ paint-over f p (le-leb (f.r + f.h) p.pen.y (rw so_far.line low)) (drop i t))
 
-module _ {f : Frame} {t : List ℕ} {first : Sheet} {i : ℕ} {p : Sheet} where
-  pub drawn-over : Drawn f t first i p → f.r + f.h ≤ p.pen.y → p ≡ paint f t first
-  drawn-over so_far low = sym (so_far.rest ∙ paint-over f p (le-leb (f.r + f.h) p.pen.y low) (drop i t))
-
-  pub drawn-all : Drawn f t first i p → length t ≤ i → p ≡ paint f t first
+  pub drawn-all : Drawn f t first y i p → length t ≤ i → p ≡ paint f t first
   unfolding paint
   drawn-all so_far end = sym (so_far.rest ∙ rw drop_of_length-le)
 
-  module _ (so_far : DrawnInRow f t first i p) where
+  module _ (so_far : DrawnInRow f t first y i p) where
     tests : Inside f p
     tests = (so_far.drawn.top, lt-leb (f.r + f.h) p.pen.y so_far.bottom)
 
@@ -76,7 +73,7 @@ module _ {f : Frame} {t : List ℕ} {first : Sheet} {i : ℕ} {p : Sheet} where
           let shorter : length (mid_of i (e - i) t) ≤ length t - i = omega (arith, size, run.high) in
           (unbroken, (easel-less f (length t - i) _ p shorter so_far.drawn.easel, tests))
 
-      pub drawn-run : {q : Sheet} → q ≡ paint f (mid_of i (e - i) t) p → DrawnInRow f t first e q
+      pub drawn-run : {q : Sheet} → q ≡ paint f (mid_of i (e - i) t) p → DrawnInRow f t first y e q
       drawn-run {q} painted =
           let bytes = mid_of i (e - i) t in
           let line : q.pen.y ≡ p.pen.y = ap (λ s. s.pen.y) painted ∙ run_row f bytes p inside unbroken in
@@ -84,6 +81,7 @@ module _ {f : Frame} {t : List ℕ} {first : Sheet} {i : ℕ} {p : Sheet} where
           let onward = paint-append f bytes (drop e t) p ∙ ap (paint f (drop e t)) (sym painted) in
           record {
             drawn = record {
+              line = line ∙ so_far.drawn.line;
               within = run.high;
               easel = rw painted (easel-on f bytes (length t - e) p (easel-less f (length t - i) _ p all so_far.drawn.easel));
               top = rw line so_far.drawn.top;
@@ -96,11 +94,12 @@ module _ {f : Frame} {t : List ℕ} {first : Sheet} {i : ℕ} {p : Sheet} where
     pub line-asks : i < length t → (Easel f 1 p) × Inside f p
     line-asks more = (easel-less f (length t - i) 1 p (omega arith) so_far.drawn.easel, tests)
 
-    pub drawn-line : {q : Sheet} → i < length t → get_or t i 0 ≡ newline → q ≡ line_end f p → Drawn f t first (i + 1) q
+    pub drawn-line : {q : Sheet} → i < length t → get_or t i 0 ≡ newline → q ≡ line_end f p → Drawn f t first (y + 1) (i + 1) q
     unfolding paint
     drawn-line more e ended =
         let all : 1 + (length t - (i + 1)) ≤ length t - i = omega arith in
         record {
+          line = ap (λ s. s.pen.y) (ended ∙ row-end f p inside) ∙ omega (arith, so_far.drawn.line);
           within = omega arith;
           easel = rw ended (easel-on f (newline ∷ []) (length t - (i + 1)) p (easel-less f (length t - i) _ p all so_far.drawn.easel));
           top = rw (ended, row-end f p inside) (le-ltb (p.pen.y + 1) f.r (omega (arith, inside.top)));

@@ -1,72 +1,25 @@
--- Laws of the cells that the painter's code writes: cells written one by one and compared, the end of a row, and a run in a row.
-use mathlib.Core.Path.{◌≡◌, refl, sym, ap, ap₂, ◌∙◌}
+-- Laws of the cells that the painter's code writes: the end of a row, and a run in a row.
+use mathlib.Core.Path.{◌≡◌, sym, ap, ap₂, ◌∙◌}
 use mathlib.Core.Logic.{⊎_elim}
-use mathlib.Core.Bool.{Bool, true, false, not, ◌&&◌, ◌||◌, and-true, and_assoc}
-use mathlib.Core.List.{List, [], append-nil}
+use mathlib.Core.Bool.{Bool, false, not, ◌||◌}
+use mathlib.Core.List.{List}
 use Prim.Native.Nat.{ℕ, ◌+◌, ◌-◌, ◌*◌, ◌≤◌, ◌<◌, min, max}
 use native.Mathlib.Nat.{mul-le-mul}
-use native.Mathlib.Numerals.{add-one}
 use native.Mathlib.Omega.{arith}
-use lib.Dec.{eqb, ltb}
-use lib.ListN.{length, take, drop, set, get_or, replicate, drop_of_length-le, length-replicate, get_or-replicate}
-use lib.Seq.{drop-cons, drop-length, length-take-le, get_or_at}
+use lib.Dec.{ltb}
+use lib.ListN.{length, take, replicate, length-replicate}
 use borrow.Author.Tests.{ltb-true, ltb-false, le-ltb, lt-leb}
 use borrow.Rule.Slice.PartMut.{mid_of, put_mid}
+use Rattle.std.proofs.lemmas.List.{take-replicate}
 use Rattle.gap.specs.Rules.Sequence.{same_bytes, part, patch}
 use Rattle.gap.proofs.Laws.Tests.{decided, cond-false}
 use Rattle.gap.proofs.Laws.Sequence.{length_part}
-use Rattle.gap.proofs.Laws.Runs.{Copied, copied_none, copied_more, copied_all}
 use Rattle.window.specs.Words.{Frame}
 use Rattle.window.specs.declared.Pen.{Pen}
-use Rattle.window.specs.Wording.Painter.{Sheet, sheet, above, over, across, next_cell, cell_of, OnRow, Easel}
+use Rattle.window.specs.Wording.Painter.{Sheet, sheet, above, over, across, next_cell, cell_of, Easel}
 use Rattle.window.specs.Wording.Painter.{put, along, pen_below, row_below, line_end, paint}
 use Rattle.window.proofs.Laws.Paint.{InRow, in_row, row_fits, blanks}
 use Rattle.window.proofs.Laws.PaintedRun.{Run, lowest, highest, paint-run-none, paint-run}
-
--- The first i cells are those of the run; `same` tells whether they were so before, and the others decide the rest.
-pub record CellsWritten (run old : List ℕ) (s : List ℕ) (same : Bool) (i : ℕ) : Type 0 where
-  pub whole : length run ≡ length old
-  pub copied : Copied run old i s
-  pub rest : same_bytes old run ≡ (same && same_bytes (drop i old) (drop i run))
-
-pub written_none : (run old : List ℕ) → length run ≡ length old → CellsWritten run old old true 0
-written_none run old e = record { whole = e; copied = copied_none run old (omega arith); rest = refl }
-
-module _ {run old s : List ℕ} {same : Bool} {i : ℕ} (so_far : CellsWritten run old s same i) where
-  untouched : i < length run → get_or s i 0 ≡ get_or old i 0
-  untouched more =
-      let within : i < length old = omega (arith, so_far.whole) in
-      let size : length (take i run) ≡ i = length-take-le i run so_far.copied.within in
-      rw (so_far.copied.bytes, drop-cons old i 0) (get_or_at (take i run) _ _ 0 i size)
-
-  pub written-more : {b : ℕ} → i < length run → b ≡ get_or run i 0 → CellsWritten run old (set s i b) (same && eqb (get_or s i 0) b) (i + 1)
-  unfolding same_bytes
-  written-more more e = record {
-    whole = so_far.whole;
-    copied = copied_more so_far.copied more e;
-    rest =
-        let within : i < length old = omega (arith, so_far.whole) in
-        so_far.rest ∙ rw (untouched more, e, add-one, drop-cons old i 0, drop-cons run i 0) (sym (and_assoc same _ _));
-  }
-
-  pub written_all : length run ≤ i → (s ≡ run) × (not same ≡ not (same_bytes old run))
-  unfolding same_bytes
-  written_all end =
-      let gone : drop i old ≡ [] = drop_of_length-le old {i = i} (omega (arith, so_far.whole)) in
-      let same-all : same_bytes old run ≡ same = so_far.rest ∙ rw (gone, drop_of_length-le run) (and-true same) in
-      (copied_all so_far.copied end ∙ rw (so_far.whole, drop-length, append-nil), ap not (sym same-all))
-
--- Blanks are a run of 32s.
-abbrev pub Blanked : List ℕ → List ℕ → Bool → ℕ → Type 0
-Blanked old s same i = CellsWritten (replicate (length old) 32) old s same i
-
-pub blanked-none : (old : List ℕ) → Blanked old old true 0
-blanked-none old = written_none (replicate (length old) 32) old (length-replicate {A = ℕ} (length old) 32)
-
-pub blanked-more : {old s : List ℕ} {same : Bool} {i : ℕ} → Blanked old s same i → i < length old
-    → Blanked old (set s i 32) (same && eqb (get_or s i 0) 32) (i + 1)
-blanked-more {old} {s} {same} {i} so_far more =
-    written-more so_far (omega (arith, so_far.whole)) (sym (get_or-replicate (length old) i 32 0 more))
 
 -- The tests that say that the pen is in a row of the window.
 abbrev pub Inside : Frame → Sheet → Type 0
@@ -100,7 +53,7 @@ part-size a b s ordered fits = length_part a (b - a) s (omega arith)
 -- A part of the screen is lent, compared and written over: that is put.
 put_back : (pen : Pen) (screen run back : List ℕ) (at stop : ℕ) (changed : Bool) → stop - at ≡ length run → back ≡ run
     → changed ≡ not (same_bytes (part_lent at stop screen) run)
-    → sheet (record { y = pen.y; x = pen.x; changed = pen.changed || changed; first = pen.first; last = pen.last })
+    → sheet (record { y = pen.y; x = pen.x; changed = pen.changed || changed; named = pen.named })
     (part_back at stop screen back)
     ≡ put at run (sheet pen screen)
 unfolding part patch
@@ -112,12 +65,6 @@ pub row-end : (f : Frame) (p : Sheet) → InRow f p.pen.y p.screen
 unfolding line_end
 row-end f p row =
     cond-false _ _ (lt-leb (f.r + f.h) p.pen.y row.bottom) ∙ cond-false _ _ (le-ltb p.pen.y f.r row.top)
-
--- A screen is small, and so is each number on the way to a cell.
-pub cell-small : {f : Frame} {pen : Pen} {column : ℕ} → OnRow f pen column → ((pen.y - f.r) * f.w ≤ 16384) × (column - f.c ≤ 256)
-cell-small {f} {pen} row =
-    let few : pen.y - f.r ≤ 64 = omega (arith, row.top, row.bottom, row.rows) in
-    (mul-le-mul few row.columns, omega (arith, row.columns, row.right))
 
 -- The columns from low to high of the pen's row, all in the window: their cells are on the screen.
 cells_fit : {f : Frame} {n : ℕ} {pen : Pen} {screen : List ℕ} → Easel f n (sheet pen screen) × Inside f (sheet pen screen)
@@ -142,27 +89,37 @@ at_edge {c} {w} {x} {low} from =
     behind : {done : ℕ} → c ≤ low → low - c ≡ done → c + w - low ≡ w - done
     behind left across = omega arith
 
+-- The blanks that code has at hand are enough for a row.
+pub blank : (n : ℕ) → n ≤ 256 → ◌≡◌ {A = List ℕ} (take n (replicate 256 32)) (replicate n 32)
+blank n few = take-replicate n 256 32 few
+
 -- Its cells are lent and come back blank.
 module _ {f : Frame} {pen : Pen} {screen : List ℕ} (asked : Easel f 1 (sheet pen screen) × Inside f (sheet pen screen))
     {low at : ℕ} (edge : AtEdge f.c f.w pen.x low) (cell : at ≡ cell_of f pen low) where
+  abbrev left : ℕ
+  left = f.c + f.w - low
+
   abbrev rest : List ℕ
-  rest = part_lent at (at + (f.c + f.w - low)) screen
+  rest = part_lent at (at + left) screen
 
-  pub rest-fits : (at + (f.c + f.w - low) ≤ length screen) × (length screen ≤ 16384)
-  rest-fits = cells_fit asked cell edge.left edge.right (omega arith)
+  abbrev row_of_blanks : List ℕ
+  row_of_blanks = take left (replicate 256 32)
 
-  pub row-ended : {q : Pen} {back : List ℕ} {changed : Bool} → back ≡ replicate (length rest) 32
-      → changed ≡ not (same_bytes rest (replicate (length rest) 32)) → q ≡ pen_below f pen (pen.changed || changed)
-      → sheet q (part_back at (at + (f.c + f.w - low)) screen back) ≡ line_end f (sheet pen screen)
-  row-ended {q} {back} {changed} blank mark below =
-      let stop = at + (f.c + f.w - low) in
-      let all : stop - at ≡ f.c + f.w - low = omega arith in
-      let size : length rest ≡ f.c + f.w - low = part-size at stop screen (omega arith) rest-fits.0 ∙ all in
-      let as_many = all ∙ sym size ∙ sym (length-replicate {A = ℕ} (length rest) 32) in
+  pub few-left : left ≤ 256
+  few-left = omega (arith, asked.0.columns, edge.left)
+
+  pub row-ended : {q : Pen} {back : List ℕ} {changed : Bool} → back ≡ row_of_blanks
+      → changed ≡ not (same_bytes rest row_of_blanks) → q ≡ pen_below f pen (pen.changed || changed)
+      → sheet q (part_back at (at + left) screen back) ≡ line_end f (sheet pen screen)
+  row-ended {q} {back} {changed} blanked mark below =
+      let stop = at + left in
+      let all : stop - at ≡ left = omega arith in
+      let as_many = all ∙ sym (length-replicate {A = ℕ} left 32) in
       let next : at ≡ next_cell f pen = cell ∙ ap (λ n. (pen.y - f.r) * f.w + n) edge.across in
+      let made = blank left few-left in
       rw below
-      (ap (row_below f) (put_back pen screen (replicate (length rest) 32) back at stop changed as_many blank mark)
-      ∙ ap₂ (λ a n. row_below f (put a (replicate n 32) (sheet pen screen))) next (size ∙ edge.rest)
+      (ap (row_below f) (put_back pen screen (replicate left 32) back at stop changed as_many (blanked ∙ made) (mark ∙ ap (λ s. not (same_bytes rest s)) made))
+      ∙ ap₂ (λ a n. row_below f (put a (replicate n 32) (sheet pen screen))) next edge.rest
       ∙ sym (row-end f (sheet pen screen) (on-screen asked.0 asked.1).inside))
 
 -- Of a run of n bytes at column x, the columns from low to high are in the window w columns wide: where they are, and their bytes.
@@ -191,7 +148,7 @@ all-columns-seen {c} {w} {x} {n} {low} {high} from to some =
 module _ {f : Frame} {pen : Pen} {screen : List ℕ} (run : List ℕ) (asked : Easel f (length run) (sheet pen screen) × Inside f (sheet pen screen))
     {low high : ℕ} (from : low ≡ max f.c pen.x) (to : high ≡ min (f.c + f.w) (pen.x + length run)) where
   pub run-unseen : {q : Pen} → Run run → high ≤ low
-      → q ≡ record { y = pen.y; x = pen.x + length run; changed = pen.changed; first = pen.first; last = pen.last }
+      → q ≡ record { y = pen.y; x = pen.x + length run; changed = pen.changed; named = pen.named }
       → sheet q screen ≡ paint f run (sheet pen screen)
   run-unseen unbroken none moved =
       rw moved (sym (paint-run-none f run (sheet pen screen) (on-screen asked.0 asked.1).inside unbroken (omega arith)))
@@ -217,7 +174,7 @@ module _ {f : Frame} {pen : Pen} {screen : List ℕ} (run : List ℕ) (asked : E
     as_long = size ∙ sym (part-size at (at + (high - low)) screen (omega arith) fits.0 ∙ omega arith)
 
     pub run-drawn : {q : Pen} {back : List ℕ} {changed : Bool} → Run run → back ≡ bytes → changed ≡ not (same_bytes cells bytes)
-        → q ≡ record { y = pen.y; x = pen.x + length run; changed = pen.changed || changed; first = pen.first; last = pen.last }
+        → q ≡ record { y = pen.y; x = pen.x + length run; changed = pen.changed || changed; named = pen.named }
         → sheet q (part_back at (at + (high - low)) screen back) ≡ paint f run (sheet pen screen)
     unfolding part
     run-drawn {q} {back} {changed} unbroken e mark moved =

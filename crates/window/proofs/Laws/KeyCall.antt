@@ -226,9 +226,6 @@ left-gained l m lines above between text counted more run =
 pub left-told : (l m lines above : ℕ) (text : List ℕ) → LeftCounted above l m lines text → l < m → 0 < lines → above + lines ≡ newlines_left m text
 left-told l m lines above text counted more some = sym (counted.gained more some)
 
-pub left-lost : (l m lines above : ℕ) (text : List ℕ) → LeftCounted above l m lines text → m < l → above - lines ≡ newlines_left m text
-left-lost l m lines above text counted fewer = omega (arith, counted.cut fewer)
-
 -- What a key leaves of the text left of the cursor, in the store that holds the document after it.
 counted-left : (l r size lines : ℕ) (text : List ℕ) (e : Doc) → l + r ≤ length text → LeftKept (ungap l r text) e lines
     → LeftCounted (newlines_left l text) l (length e.l) lines (gapped size e)

@@ -7,7 +7,7 @@ use native.Mathlib.Nat.{zero-add}
 use native.Mathlib.Omega.{arith}
 use lib.Dec.{eqb}
 use lib.ListN.{length, take, length-append}
-use lib.Seq.{take-take, take-length, length-take-le, take-append_seam, take-append-add}
+use lib.Seq.{take-take, length-take-le, take-append_seam, take-append-add}
 use borrow.Author.Tests.{eqb-true}
 use Rattle.gap.specs.Rules.Lines.{newline, newlines, since_after, since}
 use Rattle.gap.proofs.Laws.Lines.{newlines-append, since-append, since-unbroken}
@@ -58,19 +58,17 @@ last_line_lem a z unbroken =
       start = λ x. rw up_to (since-append x a (newline ∷ []));
     }
 
--- Going back: of the k newlines to pass, `left` are left in front of index `end`, and one more at least.
-pub record Back (t : List ℕ) (k left end : ℕ) : Type 0 where
+-- Going back: of the k newlines to pass, i lie behind index `end`, and in front of it one more at least than are left.
+pub record Back (t : List ℕ) (k i end : ℕ) : Type 0 where
   pub some : k < newlines t
+  pub passed : i ≤ k
   pub within : end ≤ length t
-  pub lines : newlines (take end t) + k ≡ newlines t + left
+  pub lines : newlines (take end t) + i ≡ newlines t
 
-pub back_start : {t : List ℕ} {k : ℕ} → k < newlines t → Back t k k (length t)
-back_start some = record { some = some; within = omega arith; lines = rw take-length }
-
-module _ {t : List ℕ} {k left end : ℕ} (so_far : Back t k left end) {column : ℕ} (here : column ≡ since (take end t)) where
+module _ {t : List ℕ} {k i end : ℕ} (so_far : Back t k i end) {column : ℕ} (here : column ≡ since (take end t)) where
   line : LastLine (take end t)
   line =
-      let cut = last-newline (take end t) (omega arith) in rw cut.whole (last_line_lem cut.before cut.after cut.unbroken)
+      let cut = last-newline (take end t) (omega (arith, so_far.some, so_far.passed, so_far.lines)) in rw cut.whole (last_line_lem cut.before cut.after cut.unbroken)
 
   long : length (take end t) ≡ end
   long = length-take-le end t so_far.within
@@ -85,16 +83,21 @@ module _ {t : List ℕ} {k left end : ℕ} (so_far : Back t k left end) {column 
   same : (n m : ℕ) → n ≤ end → n ≡ m → take n t ≡ take m (take end t)
   same n m inside e = sym (take-take n end t inside) ∙ ap (λ x. take x (take end t)) e
 
-  pub back_more : 0 < left → Back t k (left - 1) (end - column - 1)
+  pub back_more : i < k → Back t k (i + 1) (end - column - 1)
   back_more more =
       let front = same (end - column - 1) (length (take end t) - since (take end t) - 1) (omega arith) (omega (arith, long)) in
-      record { some = so_far.some; within = omega arith; lines = omega (arith, ap newlines front, line.before) }
+      record {
+        some = so_far.some;
+        passed = omega arith;
+        within = omega arith;
+        lines = omega (arith, so_far.lines, ap newlines front, line.before);
+      }
 
-  pub back-all : left ≤ 0 → LineStart t k (end - column)
+  pub back-all : k ≤ i → LineStart t k (end - column)
   back-all none =
       let front = same (end - column) (length (take end t) - since (take end t)) (omega arith) (omega (arith, long)) in
       record {
         within = omega arith;
-        lines = omega (arith, ap newlines front, line.up_to);
+        lines = omega (arith, so_far.passed, so_far.lines, ap newlines front, line.up_to);
         start = λ x. ap (since_after x) front ∙ line.start x;
       }

@@ -68,8 +68,7 @@ behind t p =
             y = p.pen.y + newlines t;
             x = since_after p.pen.x t;
             changed = p.pen.changed;
-            first = p.pen.first;
-            last = p.pen.last;
+            named = p.pen.named;
           };
       screen = p.screen;
     }
@@ -78,7 +77,7 @@ behind t p =
 abbrev pub moved : ℕ → ℕ → Sheet → Sheet
 moved y x p =
     record {
-      pen = record { y = y; x = x; changed = p.pen.changed; first = p.pen.first; last = p.pen.last };
+      pen = record { y = y; x = x; changed = p.pen.changed; named = p.pen.named };
       screen = p.screen;
     }
 

@@ -26,7 +26,7 @@ put-none at p =
     let unmarked = or-false p.pen.changed in
     let same = patch-none p.screen at in
     λ i. record {
-      pen = record { y = p.pen.y; x = p.pen.x; changed = unmarked i; first = p.pen.first; last = p.pen.last };
+      pen = record { y = p.pen.y; x = p.pen.x; changed = unmarked i; named = p.pen.named };
       screen = same i;
     }
 
@@ -58,7 +58,7 @@ put_two at s t p fits =
     let marked = marked-two at s t p.screen fits p.pen.changed in
     let screens = patch-behind s t p.screen at (length s) refl fits in
     λ i. record {
-      pen = record { y = p.pen.y; x = p.pen.x; changed = marked i; first = p.pen.first; last = p.pen.last };
+      pen = record { y = p.pen.y; x = p.pen.x; changed = marked i; named = p.pen.named };
       screen = screens i;
     }
 

@@ -1,5 +1,4 @@
 -- The painter's law: a text painted from its beginning, and all line ends below it, give the window and the named rows.
-use Rattle.std.proofs.Common.{Some}
 use mathlib.Core.Path.{◌≡◌, refl, sym, ap, ◌∙◌}
 use mathlib.Core.Logic.{⊎_elim}
 use mathlib.Core.Bool.{Bool, true, false, cond}
@@ -11,6 +10,7 @@ use lib.Dec.{eqb}
 use lib.ListN.{length, get_or, length-replicate}
 use lib.Seq.{append_snoc}
 use borrow.Author.Tests.{lt-ltb, le-ltb, le-leb, lt-leb, leb-true}
+use Rattle.std.specs.Prelude.{unwrap_or}
 use Rattle.gap.specs.Rules.Doc.{Doc, content, times}
 use Rattle.gap.specs.Rules.Lines.{newline, newlines, since_after, since, lines}
 use Rattle.gap.proofs.Laws.Tests.{clash, decided, cond-true}
@@ -20,14 +20,14 @@ use Rattle.window.specs.declared.Pen.{Pen}
 use Rattle.window.specs.Rules.Window.{window}
 use Rattle.window.specs.Rules.Rows.{first_row, last_row}
 use Rattle.window.specs.Wording.Painter.{Sheet, begun, above, over, across, next_cell, put, along, letter, line_below, row_below}
-use Rattle.window.specs.Wording.Painter.{line_end, paint, finish_paint}
+use Rattle.window.specs.Wording.Painter.{line_end, paint, finish_paint, no_rows}
 use Rattle.window.proofs.Laws.Window.{length-window}
 use Rattle.window.proofs.Laws.Paint.{byte, paint-over, InRow, letter-fits, blanks, blanks-fit, Lettered, lettered, Ended, ended}
 use Rattle.window.proofs.Laws.Paint.{letter-below, letter-higher, letter-before, letter-behind, letter-inside}
 use Rattle.window.proofs.Laws.Paint.{end_below, end-higher, end-inside}
 use Rattle.window.proofs.Laws.PaintedCells.{line_of, line-ends, line-goes-on, no-line-left, first-line-newline, first-line-letter}
 use Rattle.window.proofs.Laws.PaintedCells.{letter-cell, blanks-cells}
-use Rattle.window.proofs.Laws.PaintedRows.{reached-none, reached-moved, reached-at}
+use Rattle.window.proofs.Laws.PaintedRows.{Reached, reached-none, reached-moved, reached-at}
 use Rattle.window.proofs.Laws.PaintedRows.{reached-long, reached-put, reached-row, reached-all}
 
 -- How many cells of its row the pen has painted: none outside the window.
@@ -52,7 +52,7 @@ shown-start f pen start = go (above f pen) (over f pen)
 -- The pen is in the window or above it, or just below it, and the cells up to it are painted.
 record Painted (f : Frame) (d : Doc) (old : List ℕ) (p : Sheet) : Type 0 where
   within : p.pen.y ≤ f.r + f.h
-  so_far : Some f old (window f d) (p.pen.y - f.r) (shown f p.pen) p
+  so_far : Reached f old (window f d) (p.pen.y - f.r) (shown f p.pen) p
 
 module _ (f : Frame) (d : Doc) (old : List ℕ) (size : length old ≡ f.h * f.w) where
   along-painted : (p : Sheet) → Painted f d old p → shown f p.pen ≡ shown f (along 1 p).pen → Painted f d old (along 1 p)
@@ -133,7 +133,7 @@ end-pen f p _ more (end-inside h) = (refl, refl)
 abbrev Done : Frame → Doc → List ℕ → Sheet → Type 0
 Done f d old p =
     let new = window f d in
-    (p.screen ≡ new) × (p.pen.first ≡ first_row f.h f.w old new) × (p.pen.last ≡ last_row f.h f.w old new)
+    (p.screen ≡ new) × (unwrap_or p.pen.named no_rows ≡ record { first = first_row f.h f.w old new; last = last_row f.h f.w old new })
 
 -- Of the text t ++ u, t is painted: the pen is at its end.
 record Midway (f : Frame) (d : Doc) (old t u : List ℕ) (p : Sheet) : Type 0 where
@@ -232,8 +232,7 @@ module _ (f : Frame) (d : Doc) (old : List ℕ) (size : length old ≡ f.h * f.w
 pub painted : (f : Frame) (d : Doc) (old : List ℕ) → length old ≡ f.h * f.w
     → let p = finish_paint f (paint f (content d) (begun old)) in
     (p.screen ≡ window f d)
-    × (p.pen.first ≡ first_row f.h f.w old (window f d))
-    × (p.pen.last ≡ last_row f.h f.w old (window f d))
+    × (unwrap_or p.pen.named no_rows ≡ record { first = first_row f.h f.w old (window f d); last = last_row f.h f.w old (window f d) })
 unfolding newlines since_after
 painted f d old size =
     let none : 0 ≡ 0 - f.r = omega arith in

@@ -2,20 +2,21 @@
 -- the virtual text.
 use mathlib.Core.Path.{◌≡◌, refl, sym, ap, ◌∙◌}
 use mathlib.Core.Bool.{false}
-use mathlib.Core.List.{List, [], ◌∷◌, ◌++◌, append_assoc}
-use Prim.Native.Nat.{ℕ, suc, ◌+◌, ◌-◌, ◌*◌, ◌^◌, ◌≤◌, ◌<◌}
+use mathlib.Core.List.{List, [], ◌∷◌, ◌++◌, append_assoc, append-nil}
+use Prim.Native.Nat.{ℕ, ◌+◌, ◌-◌, ◌^◌, ◌≤◌, ◌<◌}
 use native.Mathlib.Nat.{le_refl}
 use native.Mathlib.Omega.{arith}
-use lib.ListN.{length, take, take-append-drop, length-append, length-take, length-drop}
+use native.Mathlib.Numerals.{add-one}
+use lib.ListN.{length, take, drop, get_or, take-append-drop, length-append, drop_of_length-le}
+use lib.Seq.{drop-cons}
 use borrow.Author.Tests.{le-ltb}
 use Rattle.gap.specs.Rules.Doc.{content}
 use Rattle.gap.specs.Rules.Layout.{ungap}
 use Rattle.gap.specs.Rules.Lines.{newline, newlines, since_after}
 use Rattle.gap.proofs.Laws.Runs.{tail_of, tail-lent}
 use Rattle.window.specs.Words.{Quoted, Frame}
-use Rattle.window.specs.declared.Pen.{Pen}
-use Rattle.window.specs.Rules.Window.{virtual_in}
-use Rattle.window.specs.Wording.Painter.{Sheet, begun, above, paint, Easel, Canvas, sheet, LineStart}
+use Rattle.window.specs.Rules.Window.{virtual_in, joined}
+use Rattle.window.specs.Wording.Painter.{Sheet, begun, above, paint, Easel, Canvas, LineStart}
 use Rattle.window.proofs.Laws.Paint.{moved, paint-append, paint-above, paint-top, paint-from, easel-on, easel-less}
 
 -- A piece that lies above the window: only its newlines and the column at its end count.
@@ -31,9 +32,6 @@ pub record FirstLine (f : Frame) (t : List ℕ) (p : Sheet) (at : ℕ) : Type 0 
 
 module _ (f : Frame) (t : List ℕ) (p : Sheet) {count : ℕ} (counted : count ≡ newlines t) (up : p.pen.y < f.r)
     (low : f.r ≤ p.pen.y + count) where
-  pub piece-lines : p.pen.y + count - f.r < newlines t
-  piece-lines = omega arith
-
   pub first-line : {at : ℕ} → LineStart t (p.pen.y + count - f.r) at → FirstLine f t p at
   first-line start = record { up = up; low = omega arith; start = rw counted at start }
 
@@ -49,56 +47,52 @@ module _ {f : Frame} {t : List ℕ} {p : Sheet} {at : ℕ} (first : FirstLine f 
   pub piece-painted : paint f (tail_of at t) (moved f.r 0 p) ≡ paint f t p
   piece-painted = rw tail-lent (sym (paint-from f t p at first.up first.low first.start))
 
--- One piece after the other: the text s is painted on a screen so far, and k pieces more may come.
-pub record Pieces (f : Frame) (screen : List ℕ) (k : ℕ) (s : List ℕ) (p : Sheet) : Type 0 where
-  pub painted : p ≡ paint f s (begun screen)
-  pub easel : Easel f (k * 2 ^ 20) p
-
 pub canvas-easel : {f : Frame} {n : ℕ} {screen : List ℕ} → Canvas f n screen → (m : ℕ) → m ≤ 2 ^ 40 → Easel f m (begun screen)
 canvas-easel canvas m short =
     record { long = canvas.long; rows = canvas.rows; columns = canvas.columns; offsets = canvas.offsets; pen = omega arith }
 
-pub pieces_none : {f : Frame} {n : ℕ} {screen : List ℕ} {pen : Pen} (k : ℕ) → k ≤ 2 ^ 20 → Canvas f n screen → pen ≡ (begun screen).pen
-    → Pieces f screen k [] (sheet pen screen)
-unfolding paint
-pieces_none {screen = screen} k few canvas fresh =
-    record { painted = ap (λ x. sheet x screen) fresh; easel = rw fresh (canvas-easel canvas (k * 2 ^ 20) (omega arith)) }
+-- One piece after the other: of all pieces i are painted, and those that are left decide.
+pub record Pieces (f : Frame) (pieces : List (List ℕ)) (first : Sheet) (i : ℕ) (p : Sheet) : Type 0 where
+  pub easel : Easel f (length (joined (drop i pieces))) p
+  pub rest : paint f (joined pieces) first ≡ paint f (joined (drop i pieces)) p
 
-module _ {f : Frame} {screen s : List ℕ} {k : ℕ} {p : Sheet} (pieces : Pieces f screen (suc k) s p) where
-  pieces_room : (n : ℕ) → n ≤ suc k * 2 ^ 20 → Easel f n p
-  pieces_room n short = easel-less f (suc k * 2 ^ 20) n p (omega arith) pieces.easel
+pub pieces_none : {f : Frame} {pieces : List (List ℕ)} {first : Sheet} → Easel f (length (joined pieces)) first → Pieces f pieces first 0 first
+pieces_none easel = record { easel = easel; rest = refl }
 
-  pub pieces-next : (n : ℕ) → n ≤ 2 ^ 20 → Easel f n p
-  pieces-next n short = pieces_room n (omega arith)
+module _ {f : Frame} {pieces : List (List ℕ)} {first : Sheet} {i : ℕ} {p : Sheet} (so_far : Pieces f pieces first i p) where
+  pub pieces-all : length pieces ≤ i → p ≡ paint f (joined pieces) first
+  unfolding joined paint
+  pieces-all end = sym (so_far.rest ∙ rw drop_of_length-le)
 
-  pub pieces-all : (t whole : List ℕ) {q : Sheet} → q ≡ paint f t p → s ++ t ≡ whole → q ≡ paint f whole (begun screen)
-  pieces-all t whole e same =
-      e ∙ ap (paint f t) pieces.painted ∙ sym (paint-append f s t (begun screen)) ∙ ap (λ u. paint f u (begun screen)) same
+  -- The next one.
+  module _ (more : i < length pieces) {t : List ℕ} (this : get_or pieces i [] ≡ t) where
+    pub piece-next : joined (drop i pieces) ≡ t ++ joined (drop (i + 1) pieces)
+    unfolding joined
+    piece-next = rw (drop-cons pieces i [] more, this, add-one)
 
-  pub pieces-on : (t : List ℕ) {q : Sheet} → length t ≤ 2 ^ 20 → q ≡ paint f t p → Pieces f screen k (s ++ t) q
-  pieces-on t short e =
-      record {
-        painted = pieces-all t (s ++ t) e refl;
-        easel = rw e (easel-on f t (k * 2 ^ 20) p (pieces_room (length t + k * 2 ^ 20) (omega arith)));
-      }
+    room : Easel f (length t + length (joined (drop (i + 1) pieces))) p
+    room = rw (piece-next, length-append t (joined (drop (i + 1) pieces))) at so_far.easel
 
--- A piece is not longer than its store.
-module _ (k : ℕ) (s : List ℕ) {n : ℕ} (short : length s ≤ n) where
-  pub front-short : length (take k s) ≤ n
-  front-short = omega (arith, length-take k s)
+    pub piece-room : Easel f (length t) p
+    piece-room = easel-less f (length t + length (joined (drop (i + 1) pieces))) (length t) p (omega arith) room
 
-  pub tail-short : length (tail_of k s) ≤ n
-  tail-short = omega (arith, ap length (tail-lent k s), length-drop k s)
+    pub pieces-on : {q : Sheet} → q ≡ paint f t p → Pieces f pieces first (i + 1) q
+    pieces-on {q} e =
+        let behind = joined (drop (i + 1) pieces) in
+        record {
+          easel = rw e (easel-on f t (length behind) p room);
+          rest = so_far.rest ∙ ap (λ u. paint f u p) piece-next ∙ paint-append f t behind p ∙ ap (paint f behind) (sym e);
+        }
 
 -- The pieces make up the virtual text.
 module _ (l r : ℕ) (text : List ℕ) where
-  pub main-pieces : take l text ++ tail_of (length text - r) text ≡ content (ungap l r text)
-  unfolding ungap
-  main-pieces = rw tail-lent
+  pub main-pieces : joined (take l text ∷ tail_of (length text - r) text ∷ []) ≡ content (ungap l r text)
+  unfolding ungap joined
+  main-pieces = simp (tail-lent, append-nil)
 
   pub quoted-pieces : (q s : ℕ) (quarter : List ℕ)
-      → ((((take l text ++ (newline ∷ 62 ∷ [])) ++ take q quarter) ++ tail_of (length quarter - s) quarter) ++ (newline ∷ []))
-      ++ tail_of (length text - r) text
+      → joined (take l text ∷ (newline ∷ 62 ∷ []) ∷ take q quarter ∷ tail_of (length quarter - s) quarter ∷ (newline ∷ [])
+      ∷ tail_of (length text - r) text ∷ [])
       ≡ content (virtual_in Quoted (ungap l r text) (ungap q s quarter))
-  unfolding ungap virtual_in
-  quoted-pieces q s quarter = simp (tail-lent, append_assoc)
+  unfolding ungap virtual_in joined
+  quoted-pieces q s quarter = simp (tail-lent, append_assoc, append-nil)

@@ -1,12 +1,13 @@
 -- Laws of the refresh: the painted pieces are the virtual text, its end is in the window because the cursor is visible, and the finished
 -- painting is the window with the named rows.
-use mathlib.Core.Path.{◌≡◌, sym, ap, ◌∙◌}
+use mathlib.Core.Path.{◌≡◌, sym}
 use mathlib.Core.Bool.{true, false}
 use mathlib.Core.List.{List}
 use Prim.Native.Nat.{ℕ, ◌+◌, ◌^◌, ◌≤◌}
 use native.Mathlib.Omega.{arith}
 use lib.ListN.{length, take, length-append, length-take, length-drop}
 use lib.Seq.{length-take-le}
+use Rattle.std.specs.Prelude.{unwrap_or}
 use Rattle.gap.specs.Rules.Doc.{Doc, content}
 use Rattle.gap.specs.Rules.Lines.{newlines}
 use Rattle.gap.specs.Rules.Layout.{ungap}
@@ -14,7 +15,7 @@ use Rattle.gap.proofs.Laws.Lines.{newlines-append}
 use Rattle.editor.specs.Rules.Bytes.{quarter, quarter_of}
 use Rattle.window.specs.Words.{Lengths, Mode, Main, Quoted, Frame}
 use Rattle.window.specs.Rules.Window.{virtual_in, visible}
-use Rattle.window.specs.Wording.Painter.{Sheet, begun, above, paint, finish_paint, Easel, Canvas}
+use Rattle.window.specs.Wording.Painter.{Sheet, begun, above, paint, finish_paint, no_rows, Easel, Canvas}
 use Rattle.window.specs.declared.Rows.{Rows}
 use Rattle.window.specs.Wording.Calls.{Texts, virtual_held, Refreshed}
 use Rattle.window.proofs.Laws.Window.{visible-says}
@@ -35,20 +36,10 @@ module _ (n : Lengths) (text side : List ℕ) where
   unfolding quarter
   quoted-held mode = rw (mode, first-quarter)
 
--- What painting a quotation asks of its quarter.
+-- The quotation's quarter is as long as a quarter.
 pub quarter-size : {n : Lengths} {text side : List ℕ} → Texts n text side → quarter ≡ length (take quarter side)
 unfolding quarter
 quarter-size {side = side} texts = sym (length-take-le quarter side (omega arith))
-
-pub quoted-asked : {f : Frame} {n : Lengths} {text side screen : List ℕ} → Texts n text side → Canvas f (length text) screen
-    → Canvas f (length text + length (take quarter side)) screen
-    × ((n.main.l + n.main.r ≤ length text) × (n.quoted.l + n.quoted.r ≤ length (take quarter side)))
-unfolding quarter
-quoted-asked texts canvas =
-    let size = quarter-size texts in (
-      record { long = canvas.long; rows = canvas.rows; columns = canvas.columns; offsets = canvas.offsets; short = omega arith },
-      (texts.document, omega arith),
-    )
 
 -- The virtual text is short.
 length-virtual : (m : Mode) (d q : Doc)
@@ -71,6 +62,12 @@ length-held n text side texts =
     let size : length front ≤ quarter = rw (first-quarter, length-take) (omega arith) in
     omega arith
 
+-- Pieces that make it up can be painted.
+pub pieces-asked : {f : Frame} {n : Lengths} {text side screen all : List ℕ} → Texts n text side → Canvas f (length text) screen
+    → all ≡ content (virtual_held n text side) → Easel f (length all) (begun screen)
+pieces-asked {n = n} {text} {side} texts canvas whole =
+    rw whole (canvas-easel canvas (length (content (virtual_held n text side))) (omega (arith, length-held n text side texts)))
+
 -- All pieces are painted, and what the refresh asked for holds.
 pub record AllPainted (f : Frame) (n : Lengths) (text side screen : List ℕ) (p : Sheet) : Type 0 where
   pub texts : Texts n text side
@@ -78,16 +75,10 @@ pub record AllPainted (f : Frame) (n : Lengths) (text side screen : List ℕ) (p
   pub seen : visible f (virtual_held n text side) ≡ true
   pub whole : p ≡ paint f (content (virtual_held n text side)) (begun screen)
 
-pub all-painted : {f : Frame} {n : Lengths} {text side screen : List ℕ} {d : Doc} {p : Sheet} → Texts n text side
-    → Canvas f (length text) screen × (visible f (virtual_held n text side) ≡ true) → d ≡ virtual_held n text side
-    → p ≡ paint f (content d) (begun screen) → AllPainted f n text side screen p
-all-painted {f} {screen = screen} texts ready held e =
-    record {
-      texts = texts;
-      canvas = ready.0;
-      seen = ready.1;
-      whole = e ∙ ap (λ x. paint f (content x) (begun screen)) held;
-    }
+pub all-painted : {f : Frame} {n : Lengths} {text side screen : List ℕ} {p : Sheet} → Texts n text side
+    → Canvas f (length text) screen × (visible f (virtual_held n text side) ≡ true)
+    → p ≡ paint f (content (virtual_held n text side)) (begun screen) → AllPainted f n text side screen p
+all-painted texts ready e = record { texts = texts; canvas = ready.0; seen = ready.1; whole = e }
 
 module _ {f : Frame} {n : Lengths} {text side screen : List ℕ} {p : Sheet} (all : AllPainted f n text side screen p) where
   -- The cursor is visible, so that the pen is not above the window.
@@ -102,8 +93,8 @@ module _ {f : Frame} {n : Lengths} {text side screen : List ℕ} {p : Sheet} (al
         paint-not-above f (content d) (begun screen) all.canvas.long low,
       )
 
-  pub refreshed : {q : Sheet} {rows : Rows} → q ≡ finish_paint f p → rows ≡ record { first = q.pen.first; last = q.pen.last }
+  pub refreshed : {q : Sheet} {rows : Rows} → q ≡ finish_paint f p → rows ≡ unwrap_or q.pen.named no_rows
       → Refreshed f (virtual_held n text side) screen rows q.screen
   refreshed e named =
       let done = painted f (virtual_held n text side) screen all.canvas.long in
-      rw (named, e, all.whole) (record { screen = done.0; rows = λ i. record { first = done.1 i; last = done.2 i } })
+      rw (named, e, all.whole) (record { screen = done.0; rows = done.1 })

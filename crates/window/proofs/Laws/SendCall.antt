@@ -1,12 +1,11 @@
 -- The call that writes bytes for a terminal: what its tests refuse, and what it writes.
 use Rattle.std.proofs.Common.{Option, Some, None}
 use mathlib.Core.Path.{◌≡◌, refl, sym, ap, ◌∙◌}
-use mathlib.Core.Bool.{Bool, true, false, not, ◌&&◌}
+use mathlib.Core.Bool.{Bool, true, false, not}
 use mathlib.Core.List.{List, ◌++◌}
 use Prim.Native.Nat.{ℕ, ◌+◌, ◌*◌, ◌≤◌, ◌<◌}
 use native.Mathlib.Nat.{mul-le-mul_right}
 use native.Mathlib.Omega.{arith}
-use lib.Dec.{eqb}
 use lib.ListN.{length}
 use borrow.Author.Tests.{le-leb, lt-leb, not-true, not-false}
 use Rattle.gap.specs.Rules.Sequence.{patch}
@@ -14,26 +13,13 @@ use Rattle.gap.specs.Wording.Written.{Wrote}
 use Rattle.gap.proofs.Laws.Tests.{cond-true, cond-false}
 use Rattle.editor.specs.Rules.Refusals.{SIZE, TEXT, ROOM}
 use Rattle.window.specs.declared.Sending.{Sending}
-use Rattle.window.specs.Rules.Core.{rows_and_columns}
 use Rattle.window.specs.Rules.Sequences.{sent_spot, row_count, sent_rows, sent_column, sent_screen}
-use Rattle.window.specs.Rules.Sending.{SendOutcome, rows_on, cursor_on, sendable, bad_cell, sent_into, unless_bad_cell, sending}
+use Rattle.window.specs.Rules.Sending.{SendOutcome, sendable, bad_cell, sent_into, unless_bad_cell, sending}
 use Rattle.window.specs.Wording.Writing.{RowsIn, sent_size, outcome_of}
 use Rattle.window.proofs.Laws.Sendable.{Sendable, sendable-facts, sent-on}
 use Rattle.window.proofs.Laws.Sequences.{cursor-spot-short, named-most, rows-most, sent-size}
 
 -- ---- SIZE
-
-module _ (H W first last row column : ℕ) (screen : List ℕ) where
-  -- H and W are tested first.
-  pub not-sendable : rows_and_columns H W ≡ false → false ≡ sendable H W first last row column screen
-  unfolding sendable
-  not-sendable bad =
-      sym (ap (λ t. (t && eqb (length screen) (H * W)) && (rows_on H first last && cursor_on H W row column)) bad)
-
-  pub sendable-so : {rows cursor : Bool} → rows_and_columns H W ≡ true → rows ≡ rows_on H first last → cursor ≡ cursor_on H W row column
-      → (eqb (length screen) (H * W) && (rows && cursor)) ≡ sendable H W first last row column screen
-  unfolding sendable
-  sendable-so good rows-so cursor-so = rw (rows-so, cursor-so, good)
 
 module _ (H W first last row column : ℕ) (screen : List ℕ) (e : sendable H W first last row column screen ≡ true) where
   abbrev facts : Sendable H W first last row column screen

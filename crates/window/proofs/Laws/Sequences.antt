@@ -1,5 +1,5 @@
 -- Laws of the bytes for a terminal: how long they are, and the named rows one behind the other.
-use mathlib.Core.Path.{◌≡◌, refl, sym, ap, ◌∙◌}
+use mathlib.Core.Path.{◌≡◌, refl, ap, ◌∙◌}
 use mathlib.Core.Logic.{◌⊎◌, inl, inr, ⊎_elim}
 use mathlib.Core.List.{List, ◌++◌, map, append_assoc, append-nil}
 use Prim.Native.Nat.{ℕ, zero, suc, ◌+◌, ◌-◌, ◌*◌, ◌^◌, ◌≤◌, ◌<◌}
@@ -9,7 +9,7 @@ use native.Mathlib.Omega.{arith}
 use lib.Dec.{eqb}
 use lib.ListN.{length, length-append}
 use borrow.Rule.Slice.PartMut.{mid_of}
-use borrow.Author.Tests.{eqb-true, eqb-false, eq-eqb, ne_eqb}
+use borrow.Author.Tests.{eqb-true, eqb-false}
 use Rattle.gap.specs.Rules.Sequence.{part, counted}
 use Rattle.gap.specs.Rules.Decimal.{decimal}
 use Rattle.gap.specs.Wording.Written.{Wrote}
@@ -86,12 +86,6 @@ count first last =
     (decided (eqb first 0))
 
 module _ (first last : ℕ) where
-  pub named_none : first ≡ 0 → 0 ≡ row_count first last
-  named_none none = sym (cond-true 0 (suc last - first) (eq-eqb first 0 none))
-
-  pub named_some : ¬ (first ≡ 0) → last + 1 - first ≡ row_count first last
-  named_some some = rw add-one (sym (cond-false 0 (suc last - first) (ne_eqb first 0 some)))
-
   pub named-most : row_count first last ≤ last
   named-most = ⊎_elim (λ none. omega arith) (λ some. omega arith) (count first last)
 
@@ -218,13 +212,10 @@ module _ (W first last : ℕ) (ordered : first ≤ last) (few : last ≤ 64) {ro
 pub named_small : (W first last : ℕ) → first ≤ last → last ≤ 64 → W ≤ 256 → rows_size W (row_count first last) first ≤ 16832
 named_small W first last ordered few wide = rows-small W first last ordered few refl (row_count first last) (omega arith) wide
 
--- What is counted in one turn, and what is counted in all.
+-- What is counted in one turn.
 pub size-more : (W n k : ℕ) {size spot : ℕ} → size ≡ rows_size W n k → spot ≡ length (sent_spot (k + n) 1)
     → size + (spot + W) ≡ rows_size W (n + 1) k
 size-more W n k sized spot-so = rw (add-one, size-last W n k, sized, spot-so)
-
-pub size-all : (W k : ℕ) {rows n size : ℕ} → size ≡ rows_size W n k → n ≤ rows → rows ≤ n → size ≡ rows_size W rows k
-size-all W k {rows} {n} sized most done = let all : n ≡ rows = omega arith in rw all at sized
 
 -- The sizes of the rows and of the cursor's spot.
 pub sent-sum : (W first last row column : ℕ) {rows spot sent : ℕ} → rows ≡ rows_size W (row_count first last) first

@@ -4,17 +4,9 @@ use mathlib.Core.List.{List, ◌++◌}
 use Prim.Native.Nat.{ℕ, ◌+◌, ◌≤◌}
 use native.Mathlib.Omega.{arith}
 use lib.ListN.{length, length-append}
-use denote.Ref.{at_last}
 use Rattle.gap.specs.Rules.Sequence.{patch}
 use Rattle.gap.specs.Wording.Written.{Wrote}
 use Rattle.gap.proofs.Laws.Writers.{then, wrote-length}
-use Rattle.window.specs.declared.writer.Writer.{Writer}
-use Rattle.window.specs.Wording.Writing.{filled}
-
--- The buffer as it was left and the index that was answered make the filled writer.
-pub wrote-filled : (w : Writer) (run : List ℕ) {next : ℕ} {new : List ℕ} → Wrote w.at run w.out.now next new
-    → record { out = at_last w.out new; at = next } ≡ filled w run
-wrote-filled w run wrote i = record { out = at_last w.out (wrote.bytes i); at = wrote.place i }
 
 -- What has room for two runs has room for the first, and then, filled with it, for the second; and both together are one run.
 module _ (xs ys old : List ℕ) (room : length (xs ++ ys) ≤ length old) where

@@ -1,12 +1,15 @@
 -- What the painter does, byte by byte: it writes the cells of the window in the screen's order, each once, and notes the rows in which
 -- a cell was another one before. That this gives the window and the named rows is proved in proofs/Laws/Painter.
 use Rattle.window.specs.Words.{Frame}
-use Rattle.std.specs.Prelude.{◌≡◌, ◌≤◌, ◌<◌, Bool, false, not, ◌&&◌, ◌||◌, cond, ℕ, ◌+◌, ◌-◌, ◌*◌, ◌^◌, min, eqb, leb, ltb}
+use Rattle.std.specs.Prelude.{◌≡◌, ◌≤◌, ◌<◌, Bool, false, not, ◌&&◌, ◌||◌, cond, Option, None, Some, ℕ, ◌+◌, ◌-◌, ◌*◌, ◌^◌, min, eqb, leb, ltb}
 use Rattle.std.specs.Prelude.{List, [], ◌∷◌, length, take, replicate}
 use Rattle.gap.specs.Rules.Sequence.{same_bytes, part, patch}
 use Rattle.gap.specs.Rules.Doc.{times}
 use Rattle.gap.specs.Rules.Lines.{newline, newlines, since_after}
 use Rattle.window.specs.declared.Pen.{Pen}
+use Rattle.window.specs.declared.Rows.{Rows}
+use Rattle.window.specs.declared.painter.Painter.{Painter}
+use denote.Ref.{at_last}
 
 -- The pen, which is at a line and a column of the text, both from 0, and the screen.
 pub record Sheet : Type 0 where
@@ -15,7 +18,7 @@ pub record Sheet : Type 0 where
 
 -- Before any text.
 abbrev pub begun : List ℕ → Sheet
-begun screen = record { pen = record { y = 0; x = 0; changed = false; first = 0; last = 0 }; screen = screen }
+begun screen = record { pen = record { y = 0; x = 0; changed = false; named = None }; screen = screen }
 
 -- The line is above the window, or below it: then painting is over.
 abbrev pub above : Frame → Pen → Bool
@@ -52,8 +55,7 @@ put at cells p =
             y = p.pen.y;
             x = p.pen.x;
             changed = p.pen.changed || not (same_bytes (part at (length cells) p.screen) cells);
-            first = p.pen.first;
-            last = p.pen.last;
+            named = p.pen.named;
           };
       screen = patch at cells p.screen;
     }
@@ -62,7 +64,7 @@ put at cells p =
 abbrev pub along : ℕ → Sheet → Sheet
 along n p =
     record {
-      pen = record { y = p.pen.y; x = p.pen.x + n; changed = p.pen.changed; first = p.pen.first; last = p.pen.last };
+      pen = record { y = p.pen.y; x = p.pen.x + n; changed = p.pen.changed; named = p.pen.named };
       screen = p.screen;
     }
 
@@ -74,23 +76,25 @@ unfoldable pub letter : Frame → ℕ → Sheet → Sheet
 letter f b p =
     cond (over f p.pen) p (along 1 (cond (in_window f p.pen) (put (next_cell f p.pen) (b ∷ []) p) p))
 
+-- A call answers that no rows are named by 0 and 0.
+abbrev pub no_rows : Rows
+no_rows = record { first = 0; last = 0 }
+
+-- The rows named so far, and a row below them.
+abbrev pub with_row : Option Rows → ℕ → Rows
+with_row None row = record { first = row; last = row }
+with_row (Some rows) row = record { first = rows.first; last = row }
+
 -- The pen below the end of a line in the window; a marked row is named.
 abbrev pub pen_below : Frame → Pen → Bool → Pen
 pen_below f pen changed =
-    let row = pen.y - f.r + 1 in
-    record {
-      y = pen.y + 1;
-      x = 0;
-      changed = false;
-      first = cond changed (cond (eqb pen.first 0) row pen.first) pen.first;
-      last = cond changed row pen.last;
-    }
+    record { y = pen.y + 1; x = 0; changed = false; named = cond changed (Some (with_row pen.named (pen.y - f.r + 1))) pen.named }
 
 -- The end of a line: above the window the pen goes on to the next; in it, the rest of the row is blank.
 abbrev pub line_below : Sheet → Sheet
 line_below p =
     record {
-      pen = record { y = p.pen.y + 1; x = 0; changed = p.pen.changed; first = p.pen.first; last = p.pen.last };
+      pen = record { y = p.pen.y + 1; x = 0; changed = p.pen.changed; named = p.pen.named };
       screen = p.screen;
     }
 
@@ -127,9 +131,17 @@ pub record Canvas (f : Frame) (n : ℕ) (screen : List ℕ) : Type 0 where
   pub offsets : (f.r ≤ 2 ^ 40) × (f.c ≤ 2 ^ 40)
   pub short : n ≤ 2 ^ 20
 
--- A painting function does with a text what the definition does: pen and screen are determined.
+-- Pen and screen as one value.
 abbrev pub sheet : Pen → List ℕ → Sheet
 sheet pen screen = record { pen = pen; screen = screen }
+
+-- Those of a painter, and the painter with others in their place: its window stays, and the reference to the lent screen. A painting function
+-- does with a text what the definition does: pen and screen are determined.
+abbrev pub sheet_of : Painter → Sheet
+sheet_of t = sheet t.pen t.screen.now
+
+abbrev pub with_sheet : Painter → Sheet → Painter
+with_sheet t p = record { screen = at_last t.screen p.screen; frame = t.frame; pen = p.pen }
 
 -- Index at is the start of a line, with k newlines behind it.
 pub record LineStart (t : List ℕ) (k at : ℕ) : Type 0 where

@@ -1,16 +1,15 @@
--- `cells::put_run` meets its contract: before turn i, the first i cells are written, and the flag tells whether all were so before.
-use mathlib.Core.Path.{refl}
-use Rattle.window.proofs.Laws.DrawnCells.{written_none, written-more, written_all}
+-- `cells::put_run` meets its contract: the library compares byte by byte, as the definition does.
+use borrow.Author.Tests.{not-false}
+use mathlib.Core.Path.{sym, ◌∙◌}
+use Rattle.gap.specs.Rules.Sequence.{same_bytes}
+use Rattle.gap.proofs.Laws.Sequence.{same-equal}
 use Rattle.window.proofs.cells.put_run.Goals as goal
 
-pub loop-i-init : goal.loop-i-init
-loop-i-init c = written_none _ _ c.requires
+pub returns-then-changed : goal.returns-then-changed
+unfolding same_bytes
+returns-then-changed c = (c.copy_from_slice.ensures.after, c.ne-changed.ensures)
 
-pub loop-i-preserved : goal.loop-i-preserved
-loop-i-preserved c = written-more c.loop-i.invariant c.loop-i-test.true refl
-
-pub shape_of-cells : goal.shape_of-cells
-shape_of-cells c = c.loop-i.invariant.copied.same
-
-pub returns : goal.returns
-returns c = written_all c.loop-i.invariant c.loop-i-test.false
+pub returns-else-changed : goal.returns-else-changed
+unfolding same_bytes
+returns-else-changed c =
+    (same-equal c.args.cells.now c.args.run.now (not-false _ (sym c.ne-changed.ensures ∙ c.if-changed.false)), c.ne-changed.ensures)

@@ -4,14 +4,8 @@ use lib.Dec.{ltb}
 use borrow.Author.Tests.{ltb-true}
 use Rattle.gap.proofs.Laws.Tests.{and_left, and_right}
 use Rattle.gap.proofs.Laws.Lines.{front-newlines}
-use Rattle.window.proofs.Laws.KeyCall.{left-gained, left-told, left-lost}
+use Rattle.window.proofs.Laws.KeyCall.{left-gained, left-told}
 use Rattle.window.proofs.cursor.newlines_after.Goals as goal
-
-pub overflow_sub-result : goal.overflow_sub-result
-overflow_sub-result c = omega (arith, c.requires.left_counted.cut c.if-m-l.true)
-
-pub returns-then-m-l : goal.returns-then-m-l
-returns-then-m-l c = left-lost _ _ _ _ _ c.requires.left_counted c.if-m-l.true
 
 -- A sum is the number of newlines in a part of the store, so it does not wrap.
 pub overflow_add-result : goal.overflow_add-result
@@ -23,11 +17,6 @@ overflow_add-result c =
       front-newlines c.args.done.lengths.main.l
           c.args.text.now,
     )
-
-pub returns-then-l-m : goal.returns-then-l-m
-returns-then-l-m c =
-    let longer = ltb c.args.was.l c.args.done.lengths.main.l in
-    left-told _ _ _ _ _ c.requires.left_counted (ltb-true _ _ (and_left longer _ c.if-l-m.true)) (ltb-true _ _ (and_right longer _ c.if-l-m.true))
 
 pub overflow_add-result-2 : goal.overflow_add-result-2
 overflow_add-result-2 c =

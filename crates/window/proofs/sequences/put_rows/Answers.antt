@@ -1,36 +1,26 @@
 -- `put_rows` writes the named rows, one a turn: before turn i, the first i are written.
 use native.Mathlib.Omega.{arith}
-use Rattle.gap.proofs.Laws.Writers.{wrote-length}
 use Rattle.window.specs.Rules.Sequences.{sent_rows}
-use Rattle.window.proofs.Laws.Sequences.{some_first, row_number_lem, row_inside, sent-none, sent-room, sent-more, sent-all}
+use Rattle.window.proofs.Laws.Sequences.{row_number_lem, row_inside, sent-none, sent-room, sent-more, sent-all}
 use Rattle.window.proofs.sequences.put_rows.Goals as goal
 
 pub loop-i-init : goal.loop-i-init
 loop-i-init c = sent-none (omega (arith, c.requires.screen_in_bounds))
 
-pub overflow_sub-first : goal.overflow_sub-first
-overflow_sub-first c = some_first c.requires.rows_in c.row_count-rows.ensures c.loop-i-test.true
-
-pub overflow_add-first : goal.overflow_add-first
-overflow_add-first c = record { fits = omega (arith, row_inside c.requires.rows_in c.row_count-rows.ensures c.loop-i-test.true) }
-
 pub put_row-next-requires : goal.put_row-next-requires
 unfolding sent_rows
 put_row-next-requires c =
     record {
-      above_bound = row_inside c.requires.rows_in c.row_count-rows.ensures c.loop-i-test.true;
-      above_in_bounds = rw (row_number_lem c.requires.rows_in c.row_count-rows.ensures c.loop-i-test.true)
-          (sent-room c.loop-i.invariant c.loop-i-test.true (rw c.row_count-rows.ensures c.requires.screen_in_bounds));
+      above_bound = row_inside c.requires.rows_in c.row_count-i-end.ensures c.loop-i-test.true;
+      above_in_bounds = rw (row_number_lem c.requires.rows_in c.row_count-i-end.ensures c.loop-i-test.true)
+          (sent-room c.loop-i.invariant c.loop-i-test.true (rw c.row_count-i-end.ensures c.requires.screen_in_bounds));
     }
 
 pub loop-i-preserved : goal.loop-i-preserved
 loop-i-preserved c =
-    let number = row_number_lem c.requires.rows_in c.row_count-rows.ensures c.loop-i-test.true in
+    let number = row_number_lem c.requires.rows_in c.row_count-i-end.ensures c.loop-i-test.true in
     sent-more c.loop-i.invariant c.loop-i-test.true (rw number at c.put_row-next.ensures)
-
-pub shape_of-out : goal.shape_of-out
-shape_of-out c = wrote-length c.loop-i.invariant.wrote
 
 pub returns : goal.returns
 unfolding sent_rows
-returns c = rw c.row_count-rows.ensures at (sent-all c.loop-i.invariant c.loop-i-test.false)
+returns c = rw c.row_count-i-end.ensures at (sent-all c.loop-i.invariant c.loop-i-test.false)

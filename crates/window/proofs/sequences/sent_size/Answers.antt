@@ -6,8 +6,8 @@ use Rattle.window.proofs.sequences.sent_size.Goals as goal
 
 pub overflow_add-result : goal.overflow_add-result
 overflow_add-result c =
-    let rows = named_small c.args.w c.args.first c.args.last c.requires.0 c.requires.1 c.requires.2 in
-    let spot = spot-short c.args.row c.sent_column.result (search rules) (search rules) in
+    let rows = named_small c.args.w c.args.u.first c.args.u.last c.requires.0 c.requires.1 c.requires.2 in
+    let spot = spot-short c.args.u.row c.sent_column.result (search rules) (search rules) in
     record { fits = omega (arith, rows, spot, c.rows_size.ensures, c.spot_size.ensures) }
 
 pub returns : goal.returns

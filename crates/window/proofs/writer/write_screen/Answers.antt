@@ -6,11 +6,11 @@ use Rattle.window.proofs.writer.write_screen.Goals as goal
 
 pub with_spot-requires : goal.with_spot-requires
 with_spot-requires c =
-    rw (c.with_rows.ensures.with_the_rows, c.at_front-writer.ensures.empty.0, c.at_front-writer.ensures.empty.1)
+    rw (c.with_rows.ensures, c.at_front-writer.ensures.0, c.at_front-writer.ensures.1)
     (second-run-fits _ _ c.args.out.now c.requires.column_in_bounds)
 
 pub returns : goal.returns
 returns c =
-    let wrote = rw (c.with_rows.ensures.with_the_rows, c.at_front-writer.ensures.empty.0, c.at_front-writer.ensures.empty.1) at c.with_spot.ensures in
+    let wrote = rw (c.with_rows.ensures, c.at_front-writer.ensures.0, c.at_front-writer.ensures.1) at c.with_spot.ensures in
     let whole = both_runs _ _ c.args.out.now c.requires.column_in_bounds wrote in
     search rules
