@@ -1,2 +1,3 @@
 -- How the contracts of this layer's functions speak. No rule stands here.
+pub mod Rows
 pub mod Turns

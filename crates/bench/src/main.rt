@@ -19,7 +19,7 @@ use std::io::Read;
 use window::Session;
 
 // What the four header lines say, and where the text stands in the input.
-#[derive(Clone, Copy)]
+#[derive(Clone, Copy, Debug, PartialEq, Eq)]
 pub struct Header {
     pub rows: usize,
     pub columns: usize,
@@ -28,21 +28,14 @@ pub struct Header {
     pub at: usize,
 }
 
-// The header, or the number that `script=` prints.
-#[derive(Clone, Copy)]
-pub enum Heading {
-    Headed(Header),
-    Broken(usize),
+// A script that cannot be read from its beginning: the number that `script=` prints.
+#[derive(Clone, Copy, Debug, PartialEq, Eq)]
+pub struct Broken {
+    pub line: usize,
 }
 
-// What a name names.
-#[derive(Clone, Copy)]
-pub enum Naming {
-    Named(Key),
-    Unnamed,
-}
-
-// What the next line says: a key, with the place of the line behind it; that there is none; or nothing that can be read.
+// What the next line says: a key, with the place of the line behind it; that there is none; or nothing that can be read. It stays an enum
+// of its own: an Option in a Result, or the other way round, would leave the three without their names.
 #[derive(Clone, Copy)]
 pub enum Reading {
     Pressed(Key, usize),
@@ -50,23 +43,18 @@ pub enum Reading {
     Unknown,
 }
 
-// A row of the key table: a function key in numbers, the length of its name, and its name filled up with zeros.
+// What the program goes on from: the place of the next line, and the record.
 #[derive(Clone, Copy)]
-pub struct Entry {
-    pub action: usize,
-    pub direction: usize,
-    pub place: usize,
-    pub length: usize,
-    pub name: [u8; 24],
-}
-
-// What a turn leaves: whether the program goes on, the place of the next line, the record, and how many bytes are to be printed.
-#[derive(Clone, Copy)]
-pub struct Turn {
-    pub going: bool,
+pub struct Next {
     pub at: usize,
     pub session: Session,
+}
+
+// What a turn leaves: how many bytes are to be printed, and what the program goes on from, if it does.
+#[derive(Clone, Copy)]
+pub struct Turn {
     pub printed: usize,
+    pub next: Option<Next>,
 }
 
 // The input goes to the front of the buffer, until that is full or the input ends: how many bytes there are. After an error the bytes
@@ -113,11 +101,9 @@ fn play(
 {
     let mut turn = opening(h, input, text, recall, held, side, screen, out);
     write_front(rt, out, turn.printed)?;
-    let mut going = turn.going;
-    while going {
-        turn = next_turn(turn, input, text, recall, held, side, screen, out);
+    while let Some(next) = turn.next {
+        turn = next_turn(next, input, text, recall, held, side, screen, out);
         write_front(rt, out, turn.printed)?;
-        going = turn.going;
     }
     Ok(())
 }
@@ -156,10 +142,9 @@ fn give_up(rt: &impl Print, line: usize) -> io::Result<()> {
 }
 
 fn start(rt: &impl Print, input: &[u8]) -> io::Result<()> {
-    let heading = begin(input);
-    match heading {
-        Heading::Headed(h) => lend(rt, h, input),
-        Heading::Broken(line) => give_up(rt, line),
+    match begin(input) {
+        Ok(h) => lend(rt, h, input),
+        Err(broken) => give_up(rt, broken.line),
     }
 }
 

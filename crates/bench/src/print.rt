@@ -6,7 +6,6 @@ ghost use Rattle.bench.specs.Rules.Print.{rows_of, accepted_block, refused_block
 ghost use Rattle.bench.specs.Wording.Turns.{Printable};
 
 use gap::fields::put_entry;
-use gap::numbers::bit_of;
 use gap::writers::put;
 use window::Answer;
 
@@ -37,13 +36,11 @@ fn put_rows(h: usize, w: usize, screen: &[u8], out: &mut [u8], at: usize) -> usi
     ensures { Wrote at (rows_of h w screen.now) out.old result out.new }
 {
     let mut next = at;
-    let mut from = 0;
-    let mut i = 0;
-    while i < h {
-        let to = from + w;
-        next = put_row(&screen[from..to], out, next);
-        from = to;
-        i += 1;
+    let mut rest = screen;
+    for _ in 0..h {
+        let (row, below) = rest.split_at(w);
+        next = put_row(row, out, next);
+        rest = below;
     }
     next
 }
@@ -60,7 +57,7 @@ pub fn put_accepted(a: Answer, h: usize, w: usize, screen: &[u8], out: &mut [u8]
         b"lines=",
         report.lines,
         b"bell=",
-        bit_of(report.bell),
+        usize::from(report.bell),
         out,
         lines_at,
     );

@@ -22,5 +22,5 @@ put_rows-requires-clause-screen_in_bounds c =
 pub returns : goal.returns
 unfolding bytes
 returns c =
-    accepted-wrote _ _ _ _ c.bit_of.ensures c.put_two-lines_at.ensures.wrote c.put_two-first_at.ensures.wrote
+    accepted-wrote _ _ _ _ c.from.ensures c.put_two-lines_at.ensures.wrote c.put_two-first_at.ensures.wrote
     c.put_two-row_at.ensures.wrote c.put_two-rows_at.ensures.wrote c.put_rows.ensures

@@ -2,8 +2,8 @@
 use Rattle.bench.proofs.Laws.Scripts.{text-short, text-ended}
 use Rattle.bench.proofs.script.text_there.Goals as goal
 
-pub returns-then-s-at : goal.returns-then-s-at
-returns-then-s-at c = text-short _ _ _ c.requires c.if-s-at.true
+pub returns-in-Some : goal.returns-in-Some
+returns-in-Some c = let byte = c.in-Some.ensures.lookup in text-ended c.args.s.now c.args.at c.args.n byte.3.0 (byte.3.1 0)
 
-pub returns : goal.returns
-returns c = text-ended _ _ _ c.if-s-at.false
+pub returns-in-None : goal.returns-in-None
+returns-in-None c = text-short c.args.s.now c.args.at c.args.n c.requires c.in-None.ensures.lookup.3
