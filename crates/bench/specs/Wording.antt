@@ -1,3 +1,4 @@
 -- How the contracts of this layer's functions speak. No rule stands here.
+pub mod Entries
 pub mod Rows
 pub mod Turns

@@ -1,22 +1,25 @@
 // Printing into a lent store: entries, blocks, and the line that ends an unreadable script.
-ghost use Rattle.std.specs.Prelude.{◌≡◌, ◌++◌, ◌+◌, ◌*◌, ◌≤◌, length};
-ghost use Rattle.gap.specs.Rules.Fields.{entry};
+ghost use Rattle.std.specs.Prelude.{◌≡◌, ◌+◌, ◌*◌, ◌≤◌, length};
 ghost use Rattle.gap.specs.Wording.Written.{Wrote};
 ghost use Rattle.bench.specs.Rules.Print.{rows_of, accepted_block, refused_block, script_line};
+ghost use Rattle.bench.specs.Wording.Entries.{entries_of, room_of};
 ghost use Rattle.bench.specs.Wording.Turns.{Printable};
 
 use gap::fields::put_entry;
 use gap::writers::put;
 use window::Answer;
 
-// Two entries.
-fn put_two(word: &[u8], n: usize, other: &[u8], m: usize, out: &mut [u8], at: usize) -> usize
-    requires { at + (length word.now + length other.now + 42) ≤ length out.old }
-    ensures wrote { Wrote at (entry word.now n ++ entry other.now m) out.old result out.new }
-    ensures upper_bound { result ≤ at + (length word.now + length other.now + 42) }
+// Entries, one behind the other: each a word and a number. Room is asked for numbers of 20 digits, the most that one can have.
+fn put_entries(entries: &[(&'static [u8], usize)], out: &mut [u8], at: usize) -> usize
+    requires { at + room_of entries.now ≤ length out.old }
+    ensures wrote { Wrote at (entries_of entries.now) out.old result out.new }
+    ensures upper_bound { result ≤ at + room_of entries.now }
 {
-    let next = put_entry(word, n, out, at);
-    put_entry(other, m, out, next)
+    let mut next = at;
+    for (word, number) in entries {
+        next = put_entry(word, *number, out, next);
+    }
+    next
 }
 
 // A row, given its cells: `line=` stands here and not in the loop, which would have to carry it.
@@ -51,18 +54,17 @@ pub fn put_accepted(a: Answer, h: usize, w: usize, screen: &[u8], out: &mut [u8]
     requires in_bounds { 17408 ≤ length out.old }
     ensures { Wrote 0 (accepted_block h w a screen.now) out.old result out.new }
 {
-    let report = a.report;
-    let lines_at = put_two(b"code=", 0, b"steps=", report.steps, out, 0);
-    let first_at = put_two(
-        b"lines=",
-        report.lines,
-        b"bell=",
-        usize::from(report.bell),
-        out,
-        lines_at,
-    );
-    let row_at = put_two(b"first=", a.first, b"last=", a.last, out, first_at);
-    let rows_at = put_two(b"row=", a.row, b"col=", a.column, out, row_at);
+    let entries: [(&'static [u8], usize); 8] = [
+        (b"code=", 0),
+        (b"steps=", a.report.steps),
+        (b"lines=", a.report.lines),
+        (b"bell=", usize::from(a.report.bell)),
+        (b"first=", a.first),
+        (b"last=", a.last),
+        (b"row=", a.row),
+        (b"col=", a.column),
+    ];
+    let rows_at = put_entries(&entries, out, 0);
     put_rows(h, w, screen, out, rows_at)
 }
 
@@ -71,7 +73,7 @@ pub fn put_refused(code: usize, place: usize, out: &mut [u8]) -> usize
     requires { 17408 ≤ length out.old }
     ensures { Wrote 0 (refused_block code place) out.old result out.new }
 {
-    put_two(b"code=", code, b"place=", place, out, 0)
+    put_entries(&[(b"code=", code), (b"place=", place)], out, 0)
 }
 
 // The line that says which line of the input cannot be read.

@@ -44,10 +44,7 @@ pub fn screen_size(h: usize, w: usize) -> usize
     ensures value { result ≡ screen_size h w }
     ensures upper_bound { result ≤ 16384 }
 {
-    if !rows_and_columns(h, w) {
-        return 0;
-    }
-    h * w
+    if rows_and_columns(h, w) { h * w } else { 0 }
 }
 
 // The n bytes of the input from `at` on go to the front of the text store, as many as it has room for.

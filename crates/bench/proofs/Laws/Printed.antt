@@ -1,12 +1,12 @@
 -- Laws of what is printed: rows, how long they are, what has been written of them so far, and the block of an accepted call.
 use mathlib.Core.Path.{◌≡◌, refl, sym, ap, ◌∙◌}
 use mathlib.Core.Bool.{Bool, true, false}
-use mathlib.Core.List.{List, [], ◌∷◌, ◌++◌, append_assoc}
+use mathlib.Core.List.{List, [], ◌∷◌, ◌++◌, append_assoc, append-nil}
 use Prim.Native.Nat.{ℕ, zero, suc, ◌+◌, ◌*◌, ◌≤◌, ◌<◌}
 use native.Mathlib.Nat.{zero-mul, suc-mul, mul-le-mul, le_refl}
 use native.Mathlib.Numerals.{add-one}
 use native.Mathlib.Omega.{arith}
-use lib.ListN.{length, take, drop, length-append, length-drop}
+use lib.ListN.{length, take, drop, get_or, length-append, length-drop}
 use lib.Seq.{length-take-le, take-length, take-take, drop-drop}
 use Rattle.gap.specs.Rules.Sequence.{part}
 use Rattle.gap.specs.Rules.Strings.{bytes}
@@ -15,10 +15,14 @@ use Rattle.std.specs.Int.{from_bool}
 use Rattle.gap.specs.Rules.Numbers.{bit}
 use Rattle.gap.specs.Rules.Fields.{entry}
 use Rattle.gap.specs.Wording.Written.{Wrote}
+use Rattle.std.proofs.Common.{Bor}
+use Rattle.std.proofs.lemmas.List.{take_more, flat_map_more}
+use Rattle.std.proofs.lemmas.List.Sums.{sum_by-drop_more}
+use Rattle.bench.specs.Wording.Entries.{entries_of, room_of}
 use Rattle.gap.proofs.Laws.Writers.{wrote_none, then, wrote-length}
 use Rattle.window.proofs.Laws.Paint.{row_fits}
 use Rattle.window.specs.declared.Answer.{Answer}
-use Rattle.bench.specs.Rules.Print.{rows_of, accepted_block}
+use Rattle.bench.specs.Rules.Print.{rows_of, accepted_block, refused_block}
 use Rattle.bench.specs.Wording.Turns.{Printable}
 
 -- A word, cells and a newline, one behind the other, are a row.
@@ -104,20 +108,47 @@ pub shown-all : {h w at i next : ℕ} {screen old rest new : List ℕ} → Shown
     → Wrote at (rows_of h w screen) old next new
 shown-all {h} {w} {at} {i} shown done = let all : i ≡ h = omega arith in rw all at shown.wrote
 
+-- Entries are written one behind the other: before entry i, those before it are, and there is room for the rest.
+pub record Entered (entries : List (Bor (List ℕ) × ℕ)) (old : List ℕ) (at i next : ℕ) (new : List ℕ) : Type 0 where
+  pub wrote : Wrote at (entries_of (take i entries)) old next new
+  pub bound : next + room_of (drop i entries) ≤ at + room_of entries
+
+pub entered-none : (entries : List (Bor (List ℕ) × ℕ)) (old : List ℕ) (at : ℕ) → at + room_of entries ≤ length old → Entered entries old at 0 at old
+entered-none entries old at room = record { wrote = wrote_none at old (omega arith); bound = omega arith }
+
+pub entered-more : {entries : List (Bor (List ℕ) × ℕ)} {old new newer : List ℕ} {at i next after : ℕ} (none : Bor (List ℕ) × ℕ)
+    → Entered entries old at i next new → i < length entries → let e = get_or entries i none in
+    Wrote next (entry e.0.now e.1) new after newer → after ≤ next + (length e.0.now + 21) → Entered entries old at (i + 1) after newer
+entered-more {entries} {i = i} none so_far more written bounded =
+    let one : entries_of (take (i + 1) entries) ≡ entries_of (take i entries) ++ entry (get_or entries i none).0.now (get_or entries i none).1 =
+    ap entries_of (take_more entries i none more) ∙ sym (flat_map_more (λ e. entry e.0.now e.1) [] (take i entries) (get_or entries i none)) in
+    record {
+      wrote = rw one (then so_far.wrote written);
+      bound = omega (arith, sum_by-drop_more (λ e. length e.0.now + 21) entries i none more, so_far.bound);
+    }
+
 -- A flag as a number, as code makes it.
 as_bit : (b : Bool) → from_bool b ≡ bit b
 as_bit true = refl
 as_bit false = refl
 
--- The block of an accepted call: its entries two by two, and the rows behind them.
-pub accepted-wrote : (h w : ℕ) (a : Answer) (screen : List ℕ) {bell lines_at first-at row_at rows_at next : ℕ} {old s t u v new : List ℕ}
-    → bell ≡ from_bool a.report.bell
-    → Wrote 0 (entry (bytes "code=") 0 ++ entry (bytes "steps=") a.report.steps) old lines_at s
-    → Wrote lines_at (entry (bytes "lines=") a.report.lines ++ entry (bytes "bell=") bell) s first-at t
-    → Wrote first-at (entry (bytes "first=") a.first ++ entry (bytes "last=") a.last) t row_at u
-    → Wrote row_at (entry (bytes "row=") a.row ++ entry (bytes "col=") a.column) u rows_at v
-    → Wrote rows_at (rows_of h w screen) v next new
+-- The block of an accepted call: its entries, and the rows behind them.
+pub accepted-wrote : (h w : ℕ) (a : Answer) (screen : List ℕ) {bell rows_at next : ℕ} {old mid new : List ℕ} → bell ≡ from_bool a.report.bell
+    → Wrote 0 (entry (bytes "code=") 0
+    ++ (entry (bytes "steps=") a.report.steps
+    ++ (entry (bytes "lines=") a.report.lines
+    ++ (entry (bytes "bell=") bell
+    ++ (entry (bytes "first=") a.first
+    ++ (entry (bytes "last=") a.last
+    ++ (entry (bytes "row=") a.row ++ (entry (bytes "col=") a.column ++ [])))))))) old rows_at mid
+    → Wrote rows_at (rows_of h w screen) mid next new
     → Wrote 0 (accepted_block h w a screen) old next new
 unfolding accepted_block
-accepted-wrote h w a screen rings code_is did-is named-are cursor-is rows_are =
-    rw (← as_bit a.report.bell, ← rings) (simp append_assoc at (then code_is (then did-is (then named-are (then cursor-is rows_are)))))
+accepted-wrote h w a screen rings entries_are rows_are =
+    rw (← as_bit a.report.bell, ← rings) (simp append_assoc at (then entries_are rows_are))
+
+-- That of a refused one.
+pub refused-wrote : (code place : ℕ) {next : ℕ} {old new : List ℕ}
+    → Wrote 0 (entry (bytes "code=") code ++ (entry (bytes "place=") place ++ [])) old next new → Wrote 0 (refused_block code place) old next new
+unfolding refused_block
+refused-wrote code place entries_are = rw append-nil at entries_are

@@ -6,21 +6,9 @@ use Rattle.bench.proofs.print.put_accepted.Goals as goal
 
 pub put_rows-requires-clause-screen_in_bounds : goal.put_rows-requires-clause-screen_in_bounds
 put_rows-requires-clause-screen_in_bounds c =
-    rows-room _ _ c.requires.printable (omega (
-      arith,
-      c.requires.in_bounds,
-      c.put_two-lines_at.ensures.upper_bound,
-      c.put_two-first_at.ensures.upper_bound,
-      c.put_two-row_at.ensures.upper_bound,
-      c.put_two-rows_at.ensures.upper_bound,
-      c.put_two-lines_at.auto.out,
-      c.put_two-first_at.auto.out,
-      c.put_two-row_at.auto.out,
-      c.put_two-rows_at.auto.out,
-    ))
+    rows-room _ _ c.requires.printable
+    (omega (arith, c.requires.in_bounds, c.put_entries-rows_at.ensures.upper_bound, c.put_entries-rows_at.auto.out))
 
 pub returns : goal.returns
 unfolding bytes
-returns c =
-    accepted-wrote _ _ _ _ c.from.ensures c.put_two-lines_at.ensures.wrote c.put_two-first_at.ensures.wrote
-    c.put_two-row_at.ensures.wrote c.put_two-rows_at.ensures.wrote c.put_rows.ensures
+returns c = accepted-wrote _ _ c.args.a _ c.from.ensures c.put_entries-rows_at.ensures.wrote c.put_rows.ensures
