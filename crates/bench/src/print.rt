@@ -77,6 +77,7 @@ pub fn put_refused(code: usize, place: usize, out: &mut [u8]) -> usize
 }
 
 // The line that says which line of the input cannot be read.
+#[tactic(auto, unfolding(crate::specs::Rules::Print::script_line, gap::specs::Rules::Strings::bytes))]
 pub fn put_script(line: usize, out: &mut [u8]) -> usize
     requires { 17408 ≤ length out.old }
     ensures { Wrote 0 (script_line line) out.old result out.new }

@@ -2,7 +2,7 @@
 use mathlib.Core.Path.{◌≡◌, refl, sym, ap, subst, ◌∙◌}
 use mathlib.Core.Bool.{Bool, true, false, cond, false≢true}
 use mathlib.Core.List.{List, ◌++◌}
-use Prim.Native.Nat.{ℕ, ◌+◌, ◌-◌, ◌*◌, ◌≤◌, ◌<◌, min, zero-le}
+use Prim.Native.Nat.{ℕ, ◌+◌, ◌-◌, ◌≤◌, ◌<◌, min}
 use native.Mathlib.Omega.{arith}
 use lib.Dec.{leb}
 use lib.ListN.{length, take, drop, length-drop}
@@ -11,18 +11,10 @@ use lib.Seq.{length-take-le}
 use Rattle.gap.specs.Rules.Sequence.{part, patch}
 use Rattle.gap.proofs.Laws.Tests.{cond-true, cond-false}
 use Rattle.gap.proofs.Laws.Sequence.{take-least}
-use Rattle.window.specs.Rules.Core.{rows_and_columns}
-use Rattle.window.proofs.Laws.KeyCall.{product_small}
 use Rattle.bench.specs.Words.{Result, Ok, Err, Header, Broken}
 use Rattle.bench.specs.Rules.Script.{broken, heading_of}
-use Rattle.bench.specs.Rules.Run.{unless_large, beginning, screen_size}
+use Rattle.bench.specs.Rules.Run.{unless_large, beginning}
 use Rattle.bench.proofs.Laws.Scripts.{headed-inside}
-
-pub store-large : (h : Header) → 4096 < h.store → broken 0 ≡ unless_large (Ok h)
-store-large h large = sym (cond-false _ _ (lt-leb h.store 4096 large))
-
-pub store-fits : (h : Header) → h.store ≤ 4096 → Ok h ≡ unless_large (Ok h)
-store-fits h fits = sym (cond-true _ _ (le-leb h.store 4096 fits))
 
 pub input-long : (input : List ℕ) → 8192 < length input → broken 0 ≡ beginning input
 unfolding beginning
@@ -50,16 +42,6 @@ begun-as input h e = small (heading_of input) h (unbroken (leb (length input) 81
 
 pub begun : (input : List ℕ) (h : Header) → Ok h ≡ beginning input → (h.at + h.length < length input) × (h.store ≤ 4096)
 begun input h e = let known = begun-as input h e in (headed-inside input known.0, known.1)
-
--- The screen that is lent.
-pub no-screen : (h w : ℕ) {ok : Bool} → ok ≡ rows_and_columns h w → ok ≡ false → (0 ≡ screen_size h w) × (0 ≤ 16384)
-no-screen h w e bad = (sym (cond-false (h * w) 0 (sym e ∙ bad)), zero-le)
-
-pub screen-fits : (h w : ℕ) {ok : Bool} → ok ≡ rows_and_columns h w → ok ≡ true → h * w ≤ 16384
-screen-fits h w e good = product_small h w (sym e ∙ good)
-
-pub some-screen : (h w : ℕ) {ok : Bool} → ok ≡ rows_and_columns h w → ok ≡ true → (h * w ≡ screen_size h w) × (h * w ≤ 16384)
-some-screen h w e good = (sym (cond-true (h * w) 0 (sym e ∙ good)), screen-fits h w e good)
 
 -- As much of a part of the input as there is room for is itself a part of it, and goes to the front of the store.
 pub part-laid : (at n size : ℕ) (input text run : List ℕ) → size ≡ min n (length text) → at + n ≤ length input

@@ -78,7 +78,7 @@ shown-none h w at screen old long fits = record {
 }
 
 module _ {h w at i next : ℕ} {screen old rest new : List ℕ} (shown : Shown h w screen old at i rest next new) (more : i < h) where
-  pub row_inside : w ≤ length rest
+  row_inside : w ≤ length rest
   row_inside = rw (shown.left, length-drop) (omega (arith, shown.long, row_fits i h w more))
 
   module _ {row : List ℕ} (first : row ≡ take w rest) where
@@ -103,10 +103,6 @@ module _ {h w at i next : ℕ} {screen old rest new : List ℕ} (shown : Shown h
           room = shown.room;
           wrote = rw (add-one, rows_last i w screen) (then shown.wrote (rw (as_long, cells) at written));
         }
-
-pub shown-all : {h w at i next : ℕ} {screen old rest new : List ℕ} → Shown h w screen old at i rest next new → h ≤ i
-    → Wrote at (rows_of h w screen) old next new
-shown-all {h} {w} {at} {i} shown done = let all : i ≡ h = omega arith in rw all at shown.wrote
 
 -- Entries are written one behind the other: before entry i, those before it are, and there is room for the rest.
 pub record Entered (entries : List (Bor (List ℕ) × ℕ)) (old : List ℕ) (at i next : ℕ) (new : List ℕ) : Type 0 where
