@@ -69,6 +69,7 @@ pub fn put_accepted(a: Answer, h: usize, w: usize, screen: &[u8], out: &mut [u8]
 }
 
 // The block of a refused call.
+#[tactic(auto, unfolding(crate::specs::Rules::Print::refused_block, gap::specs::Rules::Strings::bytes))]
 pub fn put_refused(code: usize, place: usize, out: &mut [u8]) -> usize
     requires { 17408 ≤ length out.old }
     ensures { Wrote 0 (refused_block code place) out.old result out.new }

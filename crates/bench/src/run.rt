@@ -30,6 +30,7 @@ fn unless_large(h: Header) -> Result<Header, Broken>
 }
 
 // The header, or the number of the line that `script=` prints.
+#[tactic(auto, unfolding(crate::specs::Rules::Run::beginning))]
 pub fn begin(input: &[u8]) -> Result<Header, Broken>
     ensures { result ≡ beginning input.now }
 {
@@ -48,6 +49,7 @@ pub fn screen_size(h: usize, w: usize) -> usize
 }
 
 // The n bytes of the input from `at` on go to the front of the text store, as many as it has room for.
+#[tactic(auto, unfolding(gap::specs::Rules::Sequence::patch, gap::specs::Rules::Sequence::part))]
 fn lay_out(input: &[u8], at: usize, n: usize, text: &mut [u8])
     requires { at + n ≤ length input.now }
     ensures { text.new ≡ patch 0 (take (length text.old) (part at n input.now)) text.old }
@@ -57,6 +59,7 @@ fn lay_out(input: &[u8], at: usize, n: usize, text: &mut [u8])
 }
 
 // What a call answered.
+#[tactic(auto, unfolding(crate::specs::Rules::Print::block))]
 fn put_block(a: Answer, h: usize, w: usize, screen: &[u8], out: &mut [u8]) -> usize
     requires printable { a.code ≡ 0 → Printable h w screen.now }
     requires in_bounds { 17408 ≤ length out.old }
@@ -70,6 +73,7 @@ fn put_block(a: Answer, h: usize, w: usize, screen: &[u8], out: &mut [u8]) -> us
 }
 
 // The text is laid out and opened. A refused opening is the last turn.
+#[tactic(auto, unfolding(crate::specs::Rules::Run::opening_turn))]
 pub fn opening(
     h: Header,
     input: &[u8],
@@ -102,6 +106,7 @@ pub fn opening(
 }
 
 // The turn for the line that comes next.
+#[tactic(auto, unfolding(crate::specs::Rules::Run::next_turn, crate::specs::Rules::Run::pressed_turn))]
 pub fn next_turn(
     from: Next,
     input: &[u8],

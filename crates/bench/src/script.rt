@@ -18,6 +18,7 @@ pub const DIGITS: usize = 5;
 // ---- The header
 
 // The n bytes from `at` on and a newline are there. What is left of the input is asked for its byte n, so that no sum wraps.
+#[tactic(auto, unfolding(crate::specs::Rules::Script::text_there))]
 fn text_there(s: &[u8], at: usize, n: usize) -> bool
     requires { at ≤ length s.now }
     ensures { result ≡ text_there s.now at n }
@@ -43,6 +44,7 @@ fn header_line(line: usize, word: &[u8], s: &[u8], at: usize) -> Result<(usize, 
 }
 
 // The header.
+#[tactic(auto, unfolding(crate::specs::Rules::Script::heading_of, gap::specs::Rules::Strings::bytes))]
 pub fn heading_of(s: &[u8]) -> Result<Header, Broken>
     ensures { result ≡ heading_of s.now }
 {
@@ -72,6 +74,7 @@ fn key_of(line: &[u8]) -> Option<Key>
 }
 
 // What the line that starts at `at` says.
+#[tactic(auto, unfolding(crate::specs::Rules::Script::reading_at))]
 pub fn reading_at(s: &[u8], at: usize) -> Reading
     requires { at ≤ length s.now }
     ensures { result ≡ reading_at s.now at }

@@ -1,7 +1,7 @@
 -- Laws of what is printed: rows, how long they are, what has been written of them so far, and the block of an accepted call.
 use mathlib.Core.Path.{◌≡◌, refl, sym, ap, ◌∙◌}
 use mathlib.Core.Bool.{Bool, true, false}
-use mathlib.Core.List.{List, [], ◌∷◌, ◌++◌, append_assoc, append-nil}
+use mathlib.Core.List.{List, [], ◌∷◌, ◌++◌, append_assoc}
 use Prim.Native.Nat.{ℕ, zero, suc, ◌+◌, ◌*◌, ◌≤◌, ◌<◌}
 use native.Mathlib.Nat.{zero-mul, suc-mul, mul-le-mul, le_refl}
 use native.Mathlib.Numerals.{add-one}
@@ -22,7 +22,7 @@ use Rattle.bench.specs.Wording.Entries.{entries_of, room_of}
 use Rattle.gap.proofs.Laws.Writers.{wrote_none, then, wrote-length}
 use Rattle.window.proofs.Laws.Paint.{row_fits}
 use Rattle.window.specs.declared.Answer.{Answer}
-use Rattle.bench.specs.Rules.Print.{rows_of, accepted_block, refused_block}
+use Rattle.bench.specs.Rules.Print.{rows_of, accepted_block}
 use Rattle.bench.specs.Wording.Turns.{Printable}
 
 -- A word, cells and a newline, one behind the other, are a row.
@@ -142,9 +142,3 @@ pub accepted-wrote : (h w : ℕ) (a : Answer) (screen : List ℕ) {bell rows_at 
 unfolding accepted_block
 accepted-wrote h w a screen rings entries_are rows_are =
     rw (← as_bit a.report.bell, ← rings) (simp append_assoc at (then entries_are rows_are))
-
--- That of a refused one.
-pub refused-wrote : (code place : ℕ) {next : ℕ} {old new : List ℕ}
-    → Wrote 0 (entry (bytes "code=") code ++ (entry (bytes "place=") place ++ [])) old next new → Wrote 0 (refused_block code place) old next new
-unfolding refused_block
-refused-wrote code place entries_are = rw append-nil at entries_are

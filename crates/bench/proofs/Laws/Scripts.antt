@@ -1,22 +1,19 @@
 -- Laws of what the lines of a script say: keys, and the header as a whole.
 use mathlib.Core.Path.{◌≡◌, refl, sym, ap, subst, ◌∙◌}
-use mathlib.Core.Bool.{Bool, true, false, ◌&&◌, cond}
+use mathlib.Core.Bool.{Bool, true, false, cond}
 use mathlib.Core.List.{List}
 use Prim.Native.Nat.{ℕ, ◌+◌, ◌-◌, ◌≤◌, ◌<◌}
 use native.Mathlib.Omega.{arith}
-use lib.Dec.{eqb, ltb}
-use lib.ListN.{length, get_or, length-drop}
-use lib.Seq.{get_or-drop}
-use borrow.Author.Tests.{ltb-true, lt-ltb, le-ltb}
+use lib.Dec.{ltb}
+use lib.ListN.{length}
+use borrow.Author.Tests.{ltb-true, lt-ltb}
 use borrow.Rule.Slice.PartMut.{mid_of}
 use Rattle.gap.specs.Rules.Strings.{bytes}
-use Rattle.gap.specs.Rules.Lines.{newline}
 use Rattle.gap.specs.Rules.Fields.{line_at, end_at, next_at, header_at}
-use Rattle.gap.proofs.Laws.Tests.{and_left, cond-true, cond-false}
-use Rattle.gap.proofs.Laws.Runs.{tail_of, tail-lent}
+use Rattle.gap.proofs.Laws.Tests.{and_left, cond-true}
 use Rattle.gap.proofs.Laws.LinePlaces.{line-lent, next-inside, next-after}
 use Rattle.bench.specs.Words.{Key, Number, Read, Unreadable, Header, Broken}
-use Rattle.bench.specs.Words.{Option, Some, None, Result, Ok, Err, Pressed, Finished, Unknown}
+use Rattle.bench.specs.Words.{Option, Some, None, Result, Ok, Pressed, Finished, Unknown}
 use Rattle.bench.specs.Rules.Names.{most_digits}
 use Rattle.bench.specs.Rules.Script.{broken, when_read, text_there, heading_of, key_of, read_as, reading_at}
 
@@ -35,10 +32,6 @@ module _ (s : List ℕ) (at : ℕ) {end : ℕ} (ends : end ≡ end_at s at) wher
 
     pub reading-pressed : {k : Key} {next : ℕ} → name ≡ Some k → next ≡ next_at s at → Pressed k next ≡ reading_at s at
     reading-pressed {k} e onward = ap (Pressed k) onward ∙ key-decides e
-
-pub reading-finished : (s : List ℕ) (at : ℕ) → length s ≤ at → Finished ≡ reading_at s at
-unfolding reading_at
-reading-finished s at none = sym (cond-false _ _ (le-ltb _ _ none))
 
 -- A key that is read stands on a line, so that the next line starts further on.
 key-read : (t : Bool) (name : Option Key) (m : ℕ) {k : Key} {next : ℕ} → cond t (read_as name m) Finished ≡ Pressed k next
@@ -71,65 +64,12 @@ after_columns s rows at columns = when_read 3 (header_at (bytes "store=") most_d
 abbrev pub after_rows : List ℕ → ℕ → ℕ → Result Header Broken
 after_rows s at rows = when_read 2 (header_at (bytes "cols=") most_digits s at) (after_columns s rows (next_at s at))
 
--- A line that cannot be read is named, and all depends on it.
-pub not-read : {A : Type 0} {line : ℕ} {number : Number} {e : Broken} {decided given : Result A Broken} (then : ℕ → Result A Broken)
-    → (number ≡ Unreadable) × (e.line ≡ line) → decided ≡ when_read line number then → given ≡ Err e → given ≡ decided
-not-read {line = line} then told decides gives =
-    gives ∙ (λ i. Err (record { line = told.1 i })) ∙ ap (λ n. when_read line n then) (sym told.0) ∙ sym decides
-
-module _ (s : List ℕ) where
-  pub at_rows : heading_of s ≡ when_read 1 (header_at (bytes "rows=") most_digits s 0) (after_rows s (next_at s 0))
-  unfolding heading_of
-  at_rows = refl
-
-  module _ {rows second : ℕ} (one : header_at (bytes "rows=") most_digits s 0 ≡ Read rows) (behind : second ≡ next_at s 0) where
-    pub at_columns : heading_of s ≡ after_rows s second rows
-    at_columns = at_rows ∙ ap (λ n. when_read 1 n (after_rows s (next_at s 0))) one ∙ ap (λ at. after_rows s at rows) (sym behind)
-
-    module _ {columns third : ℕ} (two : header_at (bytes "cols=") most_digits s second ≡ Read columns) (next : third ≡ next_at s second) where
-      pub at_store : heading_of s ≡ after_columns s rows third columns
-      at_store =
-          at_columns
-          ∙ ap (λ n. when_read 2 n (after_columns s rows (next_at s second))) two
-          ∙ ap (λ at. after_columns s rows at columns) (sym next)
-
-      module _ {store fourth : ℕ} (three : header_at (bytes "store=") most_digits s third ≡ Read store) (further : fourth ≡ next_at s third) where
-        pub at_length : heading_of s ≡ after_store s rows columns fourth store
-        at_length =
-            at_store
-            ∙ ap (λ n. when_read 3 n (after_store s rows columns (next_at s third))) three
-            ∙ ap (λ at. after_store s rows columns at store) (sym further)
-
-        pub at_text : {n at : ℕ} → header_at (bytes "text=") most_digits s fourth ≡ Read n → at ≡ next_at s fourth
-            → heading_of s ≡ after_text s rows columns store at n
-        at_text {n} four last =
-            at_length
-            ∙ ap (λ k. when_read 4 k (after_text s rows columns store (next_at s fourth))) four
-            ∙ ap (λ at. after_text s rows columns store at n) (sym last)
-
 -- ---- The text
 
--- The test of the text: what is left of the input is asked for its byte n.
 module _ (s : List ℕ) (at n : ℕ) where
-  abbrev ended : Bool
-  ended = eqb (get_or s (at + n) 0) newline
-
-  pub text-short : at ≤ length s → length (tail_of at s) ≤ n → false ≡ text_there s at n
-  unfolding text_there
-  text-short inside short =
-      let left : length s - at ≤ n = rw (tail-lent, length-drop) at short in
-      sym (ap (λ t. t && ended) (le-ltb (at + n) (length s) (omega arith)))
-
-  pub text-ended : {b : ℕ} → n < length (tail_of at s) → b ≡ get_or (tail_of at s) n 0 → eqb b newline ≡ text_there s at n
-  unfolding text_there
-  text-ended long is =
-      let left : n < length s - at = rw (tail-lent, length-drop) at long in
-      let byte = is ∙ ap (λ t. get_or t n 0) (tail-lent at s) ∙ get_or-drop at s n 0 in
-      ap (λ c. eqb c newline) byte ∙ sym (ap (λ t. t && ended) (lt-ltb (at + n) (length s) (omega arith)))
-
   text-inside : text_there s at n ≡ true → at + n < length s
   unfolding text_there
-  text-inside e = ltb-true _ _ (and_left (ltb (at + n) (length s)) ended e)
+  text-inside e = ltb-true _ _ (and_left (ltb (at + n) (length s)) _ e)
 
 -- A header that is read leaves its text, with a byte behind it, within the input.
 module _ (s : List ℕ) where

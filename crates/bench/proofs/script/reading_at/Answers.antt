@@ -1,10 +1,7 @@
 -- `script::reading_at` meets its contract: a line is there, it is lent, and its key decides.
 use Rattle.gap.proofs.Laws.LinePlaces.{line-starts, line-inside}
-use Rattle.bench.proofs.Laws.Scripts.{reading-finished, reading-unknown, reading-pressed}
+use Rattle.bench.proofs.Laws.Scripts.{reading-unknown, reading-pressed}
 use Rattle.bench.proofs.script.reading_at.Goals as goal
-
-pub returns-then-s-at : goal.returns-then-s-at
-returns-then-s-at c = reading-finished _ _ c.if-s-at.true
 
 pub slice_bounds-key_of-count : goal.slice_bounds-key_of-count
 slice_bounds-key_of-count c = line-starts _ _ c.end_at-end.ensures
