@@ -8,8 +8,7 @@ mod table;
 
 ghost use Rattle.std.specs.Prelude.{◌+◌, ◌≤◌, ◌<◌, length, take, IfOk};
 ghost use Rattle.std.specs.Io.KnownBytes.{Consumes, IsAtEnd};
-ghost use Rattle.window.specs.Wording.Calls.{lent};
-ghost use Rattle.bench.specs.Wording.Turns.{AsAsked};
+ghost use Rattle.bench.specs.Wording.Turns.{lent_as, AsAsked};
 
 use crate::print::put_script;
 use crate::run::{begin, next_turn, opening, screen_size};
@@ -41,6 +40,16 @@ pub enum Reading {
     Pressed(Key, usize),
     Finished,
     Unknown,
+}
+
+// The stores that are lent to the core.
+#[derive(Drop)]
+pub struct Stores<'a> {
+    pub text: &'a mut [u8],
+    pub recall: &'a mut [u8],
+    pub held: &'a mut [u8],
+    pub side: &'a mut [u8],
+    pub screen: &'a mut [u8],
 }
 
 // What the program goes on from: the place of the next line, and the record.
@@ -88,21 +97,17 @@ fn play(
     rt: &impl Print,
     h: Header,
     input: &[u8],
-    text: &mut [u8],
-    recall: &mut [u8],
-    held: &mut [u8],
-    side: &mut [u8],
-    screen: &mut [u8],
+    stores: &mut Stores,
     out: &mut [u8],
 ) -> io::Result<()>
     requires length_in_bounds { h.at + h.length < length input.now }
-    requires as_asked { AsAsked h (lent text.old recall.old held.old side.old screen.old) }
+    requires as_asked { AsAsked h (lent_as stores.old) }
     requires in_bounds { 17408 ≤ length out.old }
 {
-    let mut turn = opening(h, input, text, recall, held, side, screen, out);
+    let mut turn = opening(h, input, stores, out);
     write_front(rt, out, turn.printed)?;
     while let Some(next) = turn.next {
-        turn = next_turn(next, input, text, recall, held, side, screen, out);
+        turn = next_turn(next, input, stores, out);
         write_front(rt, out, turn.printed)?;
     }
     Ok(())
@@ -121,17 +126,14 @@ fn lend(rt: &impl Print, h: Header, input: &[u8]) -> io::Result<()>
     let mut out = [0u8; 17408];
     let store = h.store;
     let area = screen_size(h.rows, h.columns);
-    play(
-        rt,
-        h,
-        input,
-        &mut text[..store],
-        &mut recall[..store],
-        &mut held[..store],
-        &mut side,
-        &mut screen[..area],
-        &mut out,
-    )
+    let mut stores = Stores {
+        text: &mut text[..store],
+        recall: &mut recall[..store],
+        held: &mut held[..store],
+        side: &mut side,
+        screen: &mut screen[..area],
+    };
+    play(rt, h, input, &mut stores, &mut out)
 }
 
 // A script that cannot be read from its beginning prints one line.

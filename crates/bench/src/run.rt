@@ -2,14 +2,13 @@
 ghost use Rattle.std.specs.Prelude.{◌≡◌, ◌+◌, ◌≤◌, ◌<◌, length, take, Ok};
 ghost use Rattle.gap.specs.Rules.Sequence.{part, patch};
 ghost use Rattle.gap.specs.Wording.Written.{Wrote};
-ghost use Rattle.window.specs.Wording.Calls.{lent};
 ghost use Rattle.bench.specs.Rules.Print.{block};
 ghost use Rattle.bench.specs.Rules.Run.{unless_large, beginning, screen_size, opening_turn, next_turn};
-ghost use Rattle.bench.specs.Wording.Turns.{state_from, Printable, Does, Onward};
+ghost use Rattle.bench.specs.Wording.Turns.{lent_as, state_from, Printable, Does, Onward};
 
 use crate::print::{put_accepted, put_refused, put_script};
 use crate::script::{heading_of, reading_at};
-use crate::{Broken, Header, Next, Reading, Turn};
+use crate::{Broken, Header, Next, Reading, Stores, Turn};
 use gap::fields::line_number;
 use window::Answer;
 use window::calls::{open, press, rows_and_columns};
@@ -74,26 +73,23 @@ fn put_block(a: Answer, h: usize, w: usize, screen: &[u8], out: &mut [u8]) -> us
 
 // The text is laid out and opened. A refused opening is the last turn.
 #[tactic(auto, unfolding(crate::specs::Rules::Run::opening_turn))]
-pub fn opening(
-    h: Header,
-    input: &[u8],
-    text: &mut [u8],
-    recall: &mut [u8],
-    held: &mut [u8],
-    side: &mut [u8],
-    screen: &mut [u8],
-    out: &mut [u8],
-) -> Turn
+pub fn opening(h: Header, input: &[u8], stores: &mut Stores, out: &mut [u8]) -> Turn
     requires length_in_bounds { h.at + h.length < length input.now }
     requires in_bounds { 17408 ≤ length out.old }
-    ensures { Does (opening_turn h input.now
-        (lent text.old recall.old held.old side.old screen.old)) result
-        (lent text.new recall.new held.new side.new screen.new) out.old out.new }
+    ensures { Does (opening_turn h input.now (lent_as stores.old)) result (lent_as stores.new) out.old out.new }
 {
-    lay_out(input, h.at, h.length, text);
+    lay_out(input, h.at, h.length, &mut *stores.text);
     let reply = open(
-        h.length, h.rows, h.columns, text, recall, held, side, screen,
+        h.length,
+        h.rows,
+        h.columns,
+        &mut *stores.text,
+        &mut *stores.recall,
+        &mut *stores.held,
+        &mut *stores.side,
+        &mut *stores.screen,
     );
+    let screen = &mut *stores.screen;
     let printed = put_block(reply.answer, h.rows, h.columns, screen, out);
     let next = Next {
         at: h.at + h.length + 1,
@@ -107,27 +103,27 @@ pub fn opening(
 
 // The turn for the line that comes next.
 #[tactic(auto, unfolding(crate::specs::Rules::Run::next_turn, crate::specs::Rules::Run::pressed_turn))]
-pub fn next_turn(
-    from: Next,
-    input: &[u8],
-    text: &mut [u8],
-    recall: &mut [u8],
-    held: &mut [u8],
-    side: &mut [u8],
-    screen: &mut [u8],
-    out: &mut [u8],
-) -> Turn
+pub fn next_turn(from: Next, input: &[u8], stores: &mut Stores, out: &mut [u8]) -> Turn
     requires at_in_bounds { from.at ≤ length input.now }
     requires in_bounds { 17408 ≤ length out.old }
     ensures does { Does (next_turn input.now
-        (state_from from (lent text.old recall.old held.old side.old screen.old))) result
-        (lent text.new recall.new held.new side.new screen.new) out.old out.new }
+        (state_from from (lent_as stores.old))) result
+        (lent_as stores.new) out.old out.new }
     ensures onward { Onward from (length input.now) result }
 {
     match reading_at(input, from.at) {
         Reading::Pressed(key, at) => {
             let frame = from.session.frame;
-            let reply = press(from.session, key, text, recall, held, side, screen);
+            let reply = press(
+                from.session,
+                key,
+                &mut *stores.text,
+                &mut *stores.recall,
+                &mut *stores.held,
+                &mut *stores.side,
+                &mut *stores.screen,
+            );
+            let screen = &mut *stores.screen;
             let printed = put_block(reply.answer, frame.h, frame.w, screen, out);
             let session = reply.session;
             Turn {
