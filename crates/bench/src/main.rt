@@ -4,14 +4,17 @@
 mod print;
 mod run;
 mod script;
+mod stores;
 mod table;
 
 ghost use Rattle.std.specs.Prelude.{◌+◌, ◌≤◌, ◌<◌, length, take, IfOk};
 ghost use Rattle.std.specs.Io.KnownBytes.{Consumes, IsAtEnd};
-ghost use Rattle.bench.specs.Wording.Turns.{lent_as, AsAsked};
+ghost use Rattle.bench.specs.Wording.Stores.{lent_as};
+ghost use Rattle.bench.specs.Wording.Turns.{AsAsked};
 
 use crate::print::put_script;
 use crate::run::{begin, next_turn, opening, screen_size};
+use crate::stores::Stores;
 use editor::{Key, QUARTER};
 use std::io;
 use std::io::Read;
@@ -42,16 +45,6 @@ pub enum Reading {
     Unknown,
 }
 
-// The stores that are lent to the core.
-#[derive(Drop)]
-pub struct Stores<'a> {
-    pub text: &'a mut [u8],
-    pub recall: &'a mut [u8],
-    pub held: &'a mut [u8],
-    pub side: &'a mut [u8],
-    pub screen: &'a mut [u8],
-}
-
 // What the program goes on from: the place of the next line, and the record.
 #[derive(Clone, Copy)]
 pub struct Next {
@@ -68,6 +61,7 @@ pub struct Turn {
 
 // The input goes to the front of the buffer, until that is full or the input ends: how many bytes there are. After an error the bytes
 // that came before it stand there, uncounted. The promises say more of a reader whose bytes are known, as standard input's are not.
+// No method of std's does it: `read_exact` refuses an input that ends earlier, and `read_to_end` takes a heap, which the program has not.
 fn read_full<R: Read>(input: &mut R, buffer: &mut [u8]) -> io::Result<usize>
     ensures in_bounds { IfOk result (λ n. n ≤ length buffer.new) }
     ensures bytes { IfOk result (λ n. Consumes (R.remaining input.old) (R.remaining input.new) (take n buffer.new)) }
@@ -113,7 +107,7 @@ fn play(
     Ok(())
 }
 
-// The stores that the header asks for.
+// The stores that the header asks for, at the front of the largest ones: the program keeps to fixed memory.
 fn lend(rt: &impl Print, h: Header, input: &[u8]) -> io::Result<()>
     requires length_in_bounds { h.at + h.length < length input.now }
     requires store_bound { h.store ≤ 4096 }

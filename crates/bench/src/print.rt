@@ -32,7 +32,7 @@ fn put_row(cells: &[u8], out: &mut [u8], at: usize) -> usize
     put(b"\n", out, end)
 }
 
-// The H rows of a screen.
+// The H rows of a screen, split off it one by one: `chunks` would ask that W is above 0.
 fn put_rows(h: usize, w: usize, screen: &[u8], out: &mut [u8], at: usize) -> usize
     requires screen_len { length screen.now ≡ h * w }
     requires screen_in_bounds { at + length (rows_of h w screen.now) ≤ length out.old }

@@ -4,14 +4,16 @@ ghost use Rattle.gap.specs.Rules.Sequence.{part, patch};
 ghost use Rattle.gap.specs.Wording.Written.{Wrote};
 ghost use Rattle.bench.specs.Rules.Print.{block};
 ghost use Rattle.bench.specs.Rules.Run.{unless_large, beginning, screen_size, opening_turn, next_turn};
-ghost use Rattle.bench.specs.Wording.Turns.{lent_as, state_from, Printable, Does, Onward};
+ghost use Rattle.bench.specs.Wording.Stores.{lent_as};
+ghost use Rattle.bench.specs.Wording.Turns.{state_from, Printable, Does, Onward};
 
 use crate::print::{put_accepted, put_refused, put_script};
 use crate::script::{heading_of, reading_at};
-use crate::{Broken, Header, Next, Reading, Stores, Turn};
+use crate::stores::Stores;
+use crate::{Broken, Header, Next, Reading, Turn};
 use gap::fields::line_number;
 use window::Answer;
-use window::calls::{open, press, rows_and_columns};
+use window::calls::rows_and_columns;
 
 // The most bytes that a script may have, and the largest store that it may ask for.
 const LONGEST_INPUT: usize = 8192;
@@ -79,16 +81,7 @@ pub fn opening(h: Header, input: &[u8], stores: &mut Stores, out: &mut [u8]) -> 
     ensures { Does (opening_turn h input.now (lent_as stores.old)) result (lent_as stores.new) out.old out.new }
 {
     lay_out(input, h.at, h.length, &mut *stores.text);
-    let reply = open(
-        h.length,
-        h.rows,
-        h.columns,
-        &mut *stores.text,
-        &mut *stores.recall,
-        &mut *stores.held,
-        &mut *stores.side,
-        &mut *stores.screen,
-    );
+    let reply = stores.open(h);
     let screen = &mut *stores.screen;
     let printed = put_block(reply.answer, h.rows, h.columns, screen, out);
     let next = Next {
@@ -114,15 +107,7 @@ pub fn next_turn(from: Next, input: &[u8], stores: &mut Stores, out: &mut [u8]) 
     match reading_at(input, from.at) {
         Reading::Pressed(key, at) => {
             let frame = from.session.frame;
-            let reply = press(
-                from.session,
-                key,
-                &mut *stores.text,
-                &mut *stores.recall,
-                &mut *stores.held,
-                &mut *stores.side,
-                &mut *stores.screen,
-            );
+            let reply = stores.press(from.session, key);
             let screen = &mut *stores.screen;
             let printed = put_block(reply.answer, frame.h, frame.w, screen, out);
             let session = reply.session;

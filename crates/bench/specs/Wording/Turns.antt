@@ -5,15 +5,9 @@ use Rattle.bench.specs.Words.{Option, Some, Header}
 use Rattle.gap.specs.Wording.Written.{Wrote}
 use Rattle.editor.specs.Rules.Bytes.{quarter}
 use Rattle.window.specs.Rules.Core.{Lent}
-use Rattle.window.specs.Wording.Calls.{lent}
 use Rattle.bench.specs.declared.Next.{Next}
-use Rattle.bench.specs.declared.Stores.{Stores}
 use Rattle.bench.specs.declared.Turn.{Turn}
 use Rattle.bench.specs.Rules.Run.{State, Turned, screen_size}
-
--- The lent stores as the definitions have them.
-abbrev pub lent_as : Stores → Lent
-lent_as s = lent s.text.now s.recall.now s.held.now s.side.now s.screen.now
 
 -- What the code goes on from, with the stores as they are then; and what it goes on from where a turn left that.
 abbrev pub state_from : Next → Lent → State

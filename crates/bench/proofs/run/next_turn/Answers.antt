@@ -5,7 +5,7 @@ use Rattle.bench.proofs.Laws.Turning.{next-finished, onward-pressed}
 use Rattle.bench.proofs.run.next_turn.Goals as goal
 
 pub put_block-printed-requires-clause-printable : goal.put_block-printed-requires-clause-printable
-put_block-printed-requires-clause-printable c = keyed-printable _ _ _ _ c.press-reply.ensures _ c.press-reply.auto.screen
+put_block-printed-requires-clause-printable c = keyed-printable _ _ _ _ c.press-reply.ensures.answers _ c.press-reply.ensures.screen_len
 
 pub returns-in-Pressed-clause-onward : goal.returns-in-Pressed-clause-onward
 returns-in-Pressed-clause-onward c = onward-pressed _ c.args.from _ _ (sym c.in-Pressed.is ∙ c.reading_at.ensures) _ _ refl

@@ -3,4 +3,4 @@ use Rattle.bench.proofs.Laws.Blocks.{opened-printable}
 use Rattle.bench.proofs.run.opening.Goals as goal
 
 pub put_block-printed-requires-clause-printable : goal.put_block-printed-requires-clause-printable
-put_block-printed-requires-clause-printable c = opened-printable _ _ _ _ _ c.open-reply.ensures _ c.open-reply.auto.screen
+put_block-printed-requires-clause-printable c = opened-printable _ _ _ _ _ c.open-reply.ensures.answers _ c.open-reply.ensures.screen_len
