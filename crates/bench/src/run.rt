@@ -4,7 +4,7 @@ ghost use Rattle.gap.specs.Rules.Sequence.{part, patch};
 ghost use Rattle.gap.specs.Wording.Written.{Wrote};
 ghost use Rattle.bench.specs.Rules.Print.{block};
 ghost use Rattle.bench.specs.Rules.Run.{unless_large, beginning, screen_size, opening_turn, next_turn};
-ghost use Rattle.bench.specs.Wording.Stores.{lent_as};
+ghost use Rattle.bench.specs.Wording.Stores.{lent_as, SameLent};
 ghost use Rattle.bench.specs.Wording.Turns.{state_from, Printable, Does, Onward};
 
 use crate::print::{put_accepted, put_refused, put_script};
@@ -78,7 +78,8 @@ fn put_block(a: Answer, h: usize, w: usize, screen: &[u8], out: &mut [u8]) -> us
 pub fn opening(h: Header, input: &[u8], stores: &mut Stores, out: &mut [u8]) -> Turn
     requires length_in_bounds { h.at + h.length < length input.now }
     requires in_bounds { 17408 ≤ length out.old }
-    ensures { Does (opening_turn h input.now (lent_as stores.old)) result (lent_as stores.new) out.old out.new }
+    ensures does { Does (opening_turn h input.now (lent_as stores.old)) result (lent_as stores.new) out.old out.new }
+    ensures same { SameLent stores.old stores.new }
 {
     lay_out(input, h.at, h.length, &mut *stores.text);
     let reply = stores.open(h);
@@ -99,10 +100,10 @@ pub fn opening(h: Header, input: &[u8], stores: &mut Stores, out: &mut [u8]) -> 
 pub fn next_turn(from: Next, input: &[u8], stores: &mut Stores, out: &mut [u8]) -> Turn
     requires at_in_bounds { from.at ≤ length input.now }
     requires in_bounds { 17408 ≤ length out.old }
-    ensures does { Does (next_turn input.now
-        (state_from from (lent_as stores.old))) result
+    ensures does { Does (next_turn input.now (state_from from (lent_as stores.old))) result
         (lent_as stores.new) out.old out.new }
     ensures onward { Onward from (length input.now) result }
+    ensures same { SameLent stores.old stores.new }
 {
     match reading_at(input, from.at) {
         Reading::Pressed(key, at) => {

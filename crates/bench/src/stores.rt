@@ -2,7 +2,7 @@
 ghost use Rattle.std.specs.Prelude.{◌≡◌, length};
 ghost use Rattle.window.specs.Rules.Core.{opened, keyed};
 ghost use Rattle.window.specs.Wording.Calls.{called};
-ghost use Rattle.bench.specs.Wording.Stores.{lent_as};
+ghost use Rattle.bench.specs.Wording.Stores.{lent_as, SameLent};
 
 use crate::Header;
 use editor::Key;
@@ -22,6 +22,7 @@ impl Stores<'_> {
     pub fn open(&mut self, h: Header) -> Reply
         ensures answers { called result (lent_as self.new) ≡ opened h.length h.rows h.columns (lent_as self.old) }
         ensures screen_len { length self.new.screen.now ≡ length self.old.screen.now }
+        ensures same { SameLent self.old self.new }
     {
         calls::open(
             h.length,
@@ -39,6 +40,7 @@ impl Stores<'_> {
     pub fn press(&mut self, session: Session, key: Key) -> Reply
         ensures answers { called result (lent_as self.new) ≡ keyed session key (lent_as self.old) }
         ensures screen_len { length self.new.screen.now ≡ length self.old.screen.now }
+        ensures same { SameLent self.old self.new }
     {
         calls::press(
             session,
