@@ -1,5 +1,4 @@
 -- Laws of the bench program.
-pub mod KeyTable
 pub mod KeyNames
 pub mod Scripts
 pub mod Printed

@@ -1,2 +1,5 @@
 -- How the contracts of this layer's functions speak. No rule stands here.
+pub mod Entries
+pub mod Rows
+pub mod Stores
 pub mod Turns

@@ -1,4 +1,5 @@
 -- The types and cases that the definitions of this layer speak with, passed on in one place.
+pub use Rattle.std.specs.Prelude.{Option, Some, None, Result, Ok, Err}
 pub use Rattle.gap.specs.declared.Direction.{Direction}
 pub use Rattle.gap.specs.declared.Direction.TheVariants.{Left, Right}
 pub use Rattle.editor.specs.declared.Action.{Action}
@@ -8,10 +9,6 @@ pub use Rattle.editor.specs.declared.Place.TheVariants.{Character, Word, LineBeg
 pub use Rattle.editor.specs.declared.Key.{Key}
 pub use Rattle.editor.specs.declared.Key.TheVariants.{Insert, Function, Recall, Quote, Find, Replace, Mark, Cut, Paste, Newline, Tab}
 pub use Rattle.bench.specs.declared.Header.{Header}
-pub use Rattle.bench.specs.declared.Heading.{Heading}
-pub use Rattle.bench.specs.declared.Heading.TheVariants.{Headed, Broken}
-pub use Rattle.bench.specs.declared.Naming.{Naming}
-pub use Rattle.bench.specs.declared.Naming.TheVariants.{Named, Unnamed}
+pub use Rattle.bench.specs.declared.Broken.{Broken}
 pub use Rattle.bench.specs.declared.Reading.{Reading}
 pub use Rattle.bench.specs.declared.Reading.TheVariants.{Pressed, Finished, Unknown}
-pub use Rattle.bench.specs.declared.Entry.{Entry}

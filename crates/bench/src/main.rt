@@ -4,22 +4,24 @@
 mod print;
 mod run;
 mod script;
+mod stores;
 mod table;
 
 ghost use Rattle.std.specs.Prelude.{◌+◌, ◌≤◌, ◌<◌, length, take, IfOk};
 ghost use Rattle.std.specs.Io.KnownBytes.{Consumes, IsAtEnd};
-ghost use Rattle.window.specs.Wording.Calls.{lent};
+ghost use Rattle.bench.specs.Wording.Stores.{lent_as};
 ghost use Rattle.bench.specs.Wording.Turns.{AsAsked};
 
 use crate::print::put_script;
 use crate::run::{begin, next_turn, opening, screen_size};
+use crate::stores::Stores;
 use editor::{Key, QUARTER};
 use std::io;
 use std::io::Read;
 use window::Session;
 
 // What the four header lines say, and where the text stands in the input.
-#[derive(Clone, Copy)]
+#[derive(Clone, Copy, Debug, PartialEq, Eq)]
 pub struct Header {
     pub rows: usize,
     pub columns: usize,
@@ -28,21 +30,14 @@ pub struct Header {
     pub at: usize,
 }
 
-// The header, or the number that `script=` prints.
-#[derive(Clone, Copy)]
-pub enum Heading {
-    Headed(Header),
-    Broken(usize),
+// A script that cannot be read from its beginning: the number that `script=` prints.
+#[derive(Clone, Copy, Debug, PartialEq, Eq)]
+pub struct Broken {
+    pub line: usize,
 }
 
-// What a name names.
-#[derive(Clone, Copy)]
-pub enum Naming {
-    Named(Key),
-    Unnamed,
-}
-
-// What the next line says: a key, with the place of the line behind it; that there is none; or nothing that can be read.
+// What the next line says: a key, with the place of the line behind it; that there is none; or nothing that can be read. It stays an enum
+// of its own: an Option in a Result, or the other way round, would leave the three without their names.
 #[derive(Clone, Copy)]
 pub enum Reading {
     Pressed(Key, usize),
@@ -50,27 +45,23 @@ pub enum Reading {
     Unknown,
 }
 
-// A row of the key table: a function key in numbers, the length of its name, and its name filled up with zeros.
+// What the program goes on from: the place of the next line, and the record.
 #[derive(Clone, Copy)]
-pub struct Entry {
-    pub action: usize,
-    pub direction: usize,
-    pub place: usize,
-    pub length: usize,
-    pub name: [u8; 24],
-}
-
-// What a turn leaves: whether the program goes on, the place of the next line, the record, and how many bytes are to be printed.
-#[derive(Clone, Copy)]
-pub struct Turn {
-    pub going: bool,
+pub struct Next {
     pub at: usize,
     pub session: Session,
+}
+
+// What a turn leaves: how many bytes are to be printed, and what the program goes on from, if it does.
+#[derive(Clone, Copy)]
+pub struct Turn {
     pub printed: usize,
+    pub next: Option<Next>,
 }
 
 // The input goes to the front of the buffer, until that is full or the input ends: how many bytes there are. After an error the bytes
 // that came before it stand there, uncounted. The promises say more of a reader whose bytes are known, as standard input's are not.
+// No method of std's does it: `read_exact` refuses an input that ends earlier, and `read_to_end` takes a heap, which the program has not.
 fn read_full<R: Read>(input: &mut R, buffer: &mut [u8]) -> io::Result<usize>
     ensures in_bounds { IfOk result (λ n. n ≤ length buffer.new) }
     ensures bytes { IfOk result (λ n. Consumes (R.remaining input.old) (R.remaining input.new) (take n buffer.new)) }
@@ -100,29 +91,23 @@ fn play(
     rt: &impl Print,
     h: Header,
     input: &[u8],
-    text: &mut [u8],
-    recall: &mut [u8],
-    held: &mut [u8],
-    side: &mut [u8],
-    screen: &mut [u8],
+    stores: &mut Stores,
     out: &mut [u8],
 ) -> io::Result<()>
     requires length_in_bounds { h.at + h.length < length input.now }
-    requires as_asked { AsAsked h (lent text.old recall.old held.old side.old screen.old) }
+    requires as_asked { AsAsked h (lent_as stores.old) }
     requires in_bounds { 17408 ≤ length out.old }
 {
-    let mut turn = opening(h, input, text, recall, held, side, screen, out);
+    let mut turn = opening(h, input, stores, out);
     write_front(rt, out, turn.printed)?;
-    let mut going = turn.going;
-    while going {
-        turn = next_turn(turn, input, text, recall, held, side, screen, out);
+    while let Some(next) = turn.next {
+        turn = next_turn(next, input, stores, out);
         write_front(rt, out, turn.printed)?;
-        going = turn.going;
     }
     Ok(())
 }
 
-// The stores that the header asks for.
+// The stores that the header asks for, at the front of the largest ones: the program keeps to fixed memory.
 fn lend(rt: &impl Print, h: Header, input: &[u8]) -> io::Result<()>
     requires length_in_bounds { h.at + h.length < length input.now }
     requires store_bound { h.store ≤ 4096 }
@@ -135,17 +120,14 @@ fn lend(rt: &impl Print, h: Header, input: &[u8]) -> io::Result<()>
     let mut out = [0u8; 17408];
     let store = h.store;
     let area = screen_size(h.rows, h.columns);
-    play(
-        rt,
-        h,
-        input,
-        &mut text[..store],
-        &mut recall[..store],
-        &mut held[..store],
-        &mut side,
-        &mut screen[..area],
-        &mut out,
-    )
+    let mut stores = Stores {
+        text: &mut text[..store],
+        recall: &mut recall[..store],
+        held: &mut held[..store],
+        side: &mut side,
+        screen: &mut screen[..area],
+    };
+    play(rt, h, input, &mut stores, &mut out)
 }
 
 // A script that cannot be read from its beginning prints one line.
@@ -156,10 +138,9 @@ fn give_up(rt: &impl Print, line: usize) -> io::Result<()> {
 }
 
 fn start(rt: &impl Print, input: &[u8]) -> io::Result<()> {
-    let heading = begin(input);
-    match heading {
-        Heading::Headed(h) => lend(rt, h, input),
-        Heading::Broken(line) => give_up(rt, line),
+    match begin(input) {
+        Ok(h) => lend(rt, h, input),
+        Err(broken) => give_up(rt, broken.line),
     }
 }
 

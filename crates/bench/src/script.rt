@@ -1,10 +1,12 @@
 // Reading a script: its header and its keys.
-ghost use Rattle.std.specs.Prelude.{◌≡◌, ◌≤◌, length};
+ghost use Rattle.std.specs.Prelude.{◌≡◌, ◌≤◌, length, MatchResult, IfOk};
+ghost use Rattle.gap.specs.Rules.Fields.{next_at, header_at};
+ghost use Rattle.bench.specs.Rules.Names.{most_digits};
 ghost use Rattle.bench.specs.Rules.Script.{text_there, heading_of, key_of, reading_at};
 
 use crate::table::key_named;
-use crate::{Header, Heading, Naming, Reading};
-use gap::compare::begins_with;
+use crate::{Broken, Header, Reading};
+use editor::Key;
 use gap::fields::{header_at, next_at};
 use gap::lines::end_at;
 
@@ -13,63 +15,64 @@ pub const DIGITS: usize = 5;
 
 // ---- The header
 
-// The n bytes from `at` on and a newline are there. What is left of the input is compared with n, so that no sum wraps.
+// The n bytes from `at` on and a newline are there. What is left of the input is asked for its byte n, so that no sum wraps.
+#[tactic(auto, unfolding(crate::specs::Rules::Script::text_there))]
 fn text_there(s: &[u8], at: usize, n: usize) -> bool
     requires { at ≤ length s.now }
     ensures { result ≡ text_there s.now at n }
 {
-    if s.len() - at <= n {
-        return false;
+    match s[at..].get(n) {
+        Some(b) => *b == b'\n',
+        None => false,
     }
-    let end = at + n;
-    s[end] == 10
+}
+
+// What a header line says, which is this line of the script: its number, and where the next line starts.
+fn header_line(line: usize, word: &[u8], s: &[u8], at: usize) -> Result<(usize, usize), Broken>
+    requires { at ≤ length s.now }
+    ensures number { MatchResult result (λ read. header_at word.now most_digits s.now at ≡ Some read.0)
+        (λ e. (header_at word.now most_digits s.now at ≡ None) × (e.line ≡ line)) }
+    ensures next { IfOk result (λ read. read.1 ≡ next_at s.now at) }
+    ensures in_bounds { IfOk result (λ read. read.1 ≤ length s.now) }
+{
+    match header_at(word, DIGITS, s, at) {
+        Some(number) => Ok((number, next_at(s, at))),
+        None => Err(Broken { line }),
+    }
 }
 
 // The header.
-pub fn heading_of(s: &[u8]) -> Heading
+#[tactic(auto, unfolding(crate::specs::Rules::Script::heading_of, gap::specs::Rules::Strings::bytes))]
+pub fn heading_of(s: &[u8]) -> Result<Header, Broken>
     ensures { result ≡ heading_of s.now }
 {
-    let Some(rows) = header_at(b"rows=", DIGITS, s, 0) else {
-        return Heading::Broken(1);
-    };
-    let second = next_at(s, 0);
-    let Some(columns) = header_at(b"cols=", DIGITS, s, second) else {
-        return Heading::Broken(2);
-    };
-    let third = next_at(s, second);
-    let Some(store) = header_at(b"store=", DIGITS, s, third) else {
-        return Heading::Broken(3);
-    };
-    let fourth = next_at(s, third);
-    let Some(n) = header_at(b"text=", DIGITS, s, fourth) else {
-        return Heading::Broken(4);
-    };
-    let at = next_at(s, fourth);
-    if !text_there(s, at, n) {
-        return Heading::Broken(4);
+    let (rows, second) = header_line(1, b"rows=", s, 0)?;
+    let (columns, third) = header_line(2, b"cols=", s, second)?;
+    let (store, fourth) = header_line(3, b"store=", s, third)?;
+    let (length, at) = header_line(4, b"text=", s, fourth)?;
+    if !text_there(s, at, length) {
+        return Err(Broken { line: 4 });
     }
-    Heading::Headed(Header {
-        rows: rows,
-        columns: columns,
-        store: store,
-        length: n,
-        at: at,
+    Ok(Header {
+        rows,
+        columns,
+        store,
+        length,
+        at,
     })
 }
 
 // ---- Key lines
 
 // The key of a key line.
-fn key_of(line: &[u8]) -> Naming
+fn key_of(line: &[u8]) -> Option<Key>
     ensures { result ≡ key_of line.now }
 {
-    if !begins_with(b"key=", line) {
-        return Naming::Unnamed;
-    }
-    key_named(&line[4..])
+    key_named(line.strip_prefix(b"key=")?)
 }
 
 // What the line that starts at `at` says.
+#[tactic(auto, unfolding(crate::specs::Rules::Script::reading_at))]
 pub fn reading_at(s: &[u8], at: usize) -> Reading
     requires { at ≤ length s.now }
     ensures { result ≡ reading_at s.now at }
@@ -78,8 +81,8 @@ pub fn reading_at(s: &[u8], at: usize) -> Reading
         return Reading::Finished;
     }
     let end = end_at(s, at);
-    let Naming::Named(k) = key_of(&s[at..end]) else {
-        return Reading::Unknown;
-    };
-    Reading::Pressed(k, next_at(s, at))
+    match key_of(&s[at..end]) {
+        Some(key) => Reading::Pressed(key, next_at(s, at)),
+        None => Reading::Unknown,
+    }
 }

@@ -1,4 +1,6 @@
 // From bytes received to one key.
+#![tactic(auto, unfolding(crate::specs::Rules::Keyboard::received, crate::specs::Rules::Keyboard::byte_received, crate::specs::Rules::Keyboard::arrow_received, crate::specs::Rules::Keyboard::key_among, crate::specs::Rules::Keyboard::bytes_of, gap::specs::Rules::Strings::bytes, gap::specs::Rules::Sequence::same_bytes))]
+
 ghost use Rattle.std.specs.Prelude.{◌≡◌};
 ghost use Rattle.keyboard.specs.Rules.Keyboard.{byte_received, arrow_received, received};
 
@@ -13,69 +15,37 @@ const ESCAPE: u8 = 27;
 fn byte_received(b: u8) -> Received
     ensures { result ≡ byte_received b }
 {
-    if b == 13 {
-        return Received::Pressed(Key::Insert(10), 1);
-    }
-    if b == 127 {
-        return Received::Pressed(
-            Key::Function(Action::Delete, Direction::Left, Place::Character),
-            1,
-        );
-    }
-    if b < 32 {
-        return Received::Refused(SEQUENCE, 1);
-    }
-    if 126 < b {
-        return Received::Refused(SEQUENCE, 1);
-    }
-    Received::Pressed(Key::Insert(b), 1)
+    let key = match b {
+        13 => Key::Insert(10),
+        127 => Key::Function(Action::Delete, Direction::Left, Place::Character),
+        32..=126 => Key::Insert(b),
+        _ => return Received::Refused(SEQUENCE, 1),
+    };
+    Received::Pressed(key, 1)
 }
 
 // The byte behind ESC [.
 fn arrow_received(b: u8) -> Received
     ensures { result ≡ arrow_received b }
 {
-    match b {
-        b'C' => Received::Pressed(
-            Key::Function(Action::Move, Direction::Right, Place::Character),
-            3,
-        ),
-        b'D' => Received::Pressed(
-            Key::Function(Action::Move, Direction::Left, Place::Character),
-            3,
-        ),
-        b'F' => Received::Pressed(
-            Key::Function(Action::Move, Direction::Right, Place::Document),
-            3,
-        ),
-        b'H' => Received::Pressed(
-            Key::Function(Action::Move, Direction::Left, Place::Document),
-            3,
-        ),
-        _ => Received::Refused(SEQUENCE, 3),
-    }
+    let key = match b {
+        b'C' => Key::Function(Action::Move, Direction::Right, Place::Character),
+        b'D' => Key::Function(Action::Move, Direction::Left, Place::Character),
+        b'F' => Key::Function(Action::Move, Direction::Right, Place::Document),
+        b'H' => Key::Function(Action::Move, Direction::Left, Place::Document),
+        _ => return Received::Refused(SEQUENCE, 3),
+    };
+    Received::Pressed(key, 3)
 }
 
 // The first key of the bytes received so far. At most three bytes are looked at.
 pub fn receive(bytes: &[u8]) -> Received
     ensures { result ≡ received bytes.now }
 {
-    if bytes.len() < 1 {
-        return Received::More;
+    match bytes {
+        [] | [ESCAPE] | [ESCAPE, b'['] => Received::More,
+        [ESCAPE, b'[', byte, ..] => arrow_received(*byte),
+        [ESCAPE, letter, ..] => letter_received(*letter),
+        [byte, ..] => byte_received(*byte),
     }
-    let first = bytes[0];
-    if first != ESCAPE {
-        return byte_received(first);
-    }
-    if bytes.len() < 2 {
-        return Received::More;
-    }
-    let second = bytes[1];
-    if second != b'[' {
-        return letter_received(second);
-    }
-    if bytes.len() < 3 {
-        return Received::More;
-    }
-    arrow_received(bytes[2])
 }

@@ -5,3 +5,4 @@ pub mod Promise
 pub mod Demands
 pub mod Writing
 pub mod Conversion
+pub mod Unopened

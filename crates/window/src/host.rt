@@ -241,15 +241,11 @@ const ZEROS: Record = Record {
 };
 
 // A refused opening.
+#[tactic(auto, unfolding(crate::specs::Rules::Host::no_mark))]
 fn unopened(why: Unopened) -> HostReply
     ensures { result ≡ numbers_of (unopened_of why) }
 {
-    match why {
-        Unopened::Size => bare(Refusal::Size.number(), 0, ZEROS),
-        Unopened::Long => bare(Refusal::Long.number(), 0, ZEROS),
-        Unopened::Text(place) => bare(Refusal::Text.number(), place, ZEROS),
-        Unopened::Line(place) => bare(Refusal::Line.number(), place, ZEROS),
-    }
+    bare(why.refusal().number(), why.place(), ZEROS)
 }
 
 // A refusal with the record as it was.

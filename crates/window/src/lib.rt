@@ -14,6 +14,10 @@ pub mod sender;
 pub mod sequences;
 pub mod writer;
 
+ghost use Rattle.std.specs.Prelude.{◌≡◌};
+ghost use Rattle.window.specs.Wording.Unopened.{refusal_in, place_in};
+
+use editor::refusals::Refusal;
 use editor::{Lengths, Report};
 
 // The window's offsets r and c, and the screen's H rows and W columns.
@@ -73,6 +77,29 @@ pub enum Unopened {
     Long,
     Text(usize),
     Line(usize),
+}
+
+impl Unopened {
+    pub fn refusal(self) -> Refusal
+        ensures { result ≡ refusal_in self }
+    {
+        match self {
+            Unopened::Size => Refusal::Size,
+            Unopened::Long => Refusal::Long,
+            Unopened::Text(_) => Refusal::Text,
+            Unopened::Line(_) => Refusal::Line,
+        }
+    }
+
+    // The place, 0 where there is none.
+    pub fn place(self) -> usize
+        ensures { result ≡ place_in self }
+    {
+        match self {
+            Unopened::Size | Unopened::Long => 0,
+            Unopened::Text(place) | Unopened::Line(place) => place,
+        }
+    }
 }
 
 // What the routine for terminals answers: 0 or a refusal, the place of TEXT, and how many bytes it wrote.

@@ -1,70 +1,31 @@
 -- Laws of the program's beginning: the input's length, the header, and the stores that are lent for it.
-use mathlib.Core.Path.{◌≡◌, refl, sym, ap, subst, ◌∙◌}
+use mathlib.Core.Path.{◌≡◌, refl, sym, subst}
 use mathlib.Core.Bool.{Bool, true, false, cond, false≢true}
 use mathlib.Core.List.{List}
-use Prim.Native.Nat.{ℕ, ◌+◌, ◌-◌, ◌*◌, ◌≤◌, ◌<◌, min, zero-le}
-use native.Mathlib.Omega.{arith}
+use Prim.Native.Nat.{ℕ, ◌+◌, ◌≤◌, ◌<◌}
 use lib.Dec.{leb}
-use lib.ListN.{length, take, drop}
-use borrow.Author.Tests.{leb-true, le-leb, lt-leb}
-use borrow.Rule.Slice.PartMut.{mid_of}
-use Rattle.gap.specs.Rules.Sequence.{part, patch}
-use Rattle.gap.proofs.Laws.Tests.{cond-true, cond-false}
-use Rattle.gap.proofs.Laws.Sequence.{take-least}
-use Rattle.window.specs.Rules.Core.{rows_and_columns}
-use Rattle.window.proofs.Laws.KeyCall.{product_small}
-use Rattle.bench.specs.Words.{Header, Heading, Headed, Broken}
-use Rattle.bench.specs.Rules.Script.{heading_of}
-use Rattle.bench.specs.Rules.Run.{unless_large, beginning, screen_size}
+use lib.ListN.{length}
+use borrow.Author.Tests.{leb-true}
+use Rattle.bench.specs.Words.{Result, Ok, Err, Header, Broken}
+use Rattle.bench.specs.Rules.Script.{broken, heading_of}
+use Rattle.bench.specs.Rules.Run.{unless_large, beginning}
 use Rattle.bench.proofs.Laws.Scripts.{headed-inside}
 
-pub store-large : (h : Header) → 4096 < h.store → Broken 0 ≡ unless_large (Headed h)
-store-large h large = sym (cond-false _ _ (lt-leb h.store 4096 large))
-
-pub store-fits : (h : Header) → h.store ≤ 4096 → Headed h ≡ unless_large (Headed h)
-store-fits h fits = sym (cond-true _ _ (le-leb h.store 4096 fits))
-
-pub input-long : (input : List ℕ) → 8192 < length input → Broken 0 ≡ beginning input
-unfolding beginning
-input-long input long = sym (cond-false _ _ (lt-leb (length input) 8192 long))
-
-pub input-read : (input : List ℕ) (h r : Heading) → length input ≤ 8192 → h ≡ heading_of input → r ≡ unless_large h → r ≡ beginning input
-unfolding beginning
-input-read input h r short e f = f ∙ (ap unless_large e ∙ sym (cond-true _ _ (le-leb (length input) 8192 short)))
-
 -- What a header that was read tells: the text stands within the input, and the store is not too large.
-unbroken : (t : Bool) (g : Heading) (h : Header) → Headed h ≡ cond t g (Broken 0) → (t ≡ true) × (g ≡ Headed h)
+unbroken : (t : Bool) (g : Result Header Broken) (h : Header) → Ok h ≡ cond t g (broken 0) → (t ≡ true) × (g ≡ Ok h)
 unbroken true g h e = (refl, sym e)
 unbroken false g h e = (cc, cc)
 
-small : (g : Heading) (h : Header) → unless_large g ≡ Headed h → (g ≡ Headed h) × (h.store ≤ 4096)
-small (Broken line) h e = absurd (false≢true cc)
-small (Headed g) h e =
-    let known = unbroken (leb g.store 4096) (Headed g) h (sym e) in
+small : (g : Result Header Broken) (h : Header) → unless_large g ≡ Ok h → (g ≡ Ok h) × (h.store ≤ 4096)
+small (Err e) h same = absurd (false≢true cc)
+small (Ok g) h e =
+    let known = unbroken (leb g.store 4096) (Ok g) h (sym e) in
     let same : g ≡ h = cc in
     (known.1, subst (λ x. x.store ≤ 4096) same (leb-true g.store 4096 known.0))
 
-pub begun-as : (input : List ℕ) (h : Header) → Headed h ≡ beginning input → (heading_of input ≡ Headed h) × (h.store ≤ 4096)
+pub begun-as : (input : List ℕ) (h : Header) → Ok h ≡ beginning input → (heading_of input ≡ Ok h) × (h.store ≤ 4096)
 unfolding beginning
 begun-as input h e = small (heading_of input) h (unbroken (leb (length input) 8192) (unless_large (heading_of input)) h e).1
 
-pub begun : (input : List ℕ) (h : Header) → Headed h ≡ beginning input → (h.at + h.length < length input) × (h.store ≤ 4096)
+pub begun : (input : List ℕ) (h : Header) → Ok h ≡ beginning input → (h.at + h.length < length input) × (h.store ≤ 4096)
 begun input h e = let known = begun-as input h e in (headed-inside input known.0, known.1)
-
--- The screen that is lent.
-pub no-screen : (h w : ℕ) {ok : Bool} → ok ≡ rows_and_columns h w → ok ≡ false → (0 ≡ screen_size h w) × (0 ≤ 16384)
-no-screen h w e bad = (sym (cond-false (h * w) 0 (sym e ∙ bad)), zero-le)
-
-pub screen-fits : (h w : ℕ) {ok : Bool} → ok ≡ rows_and_columns h w → ok ≡ true → h * w ≤ 16384
-screen-fits h w e good = product_small h w (sym e ∙ good)
-
-pub some-screen : (h w : ℕ) {ok : Bool} → ok ≡ rows_and_columns h w → ok ≡ true → (h * w ≡ screen_size h w) × (h * w ≤ 16384)
-some-screen h w e good = (sym (cond-true (h * w) 0 (sym e ∙ good)), screen-fits h w e good)
-
--- As much of a part of the input as there is room for is itself a part of it.
-pub part-laid : (at n size : ℕ) (input text : List ℕ) → size ≡ min n (length text) → at + n ≤ length input
-    → patch 0 (mid_of at (at + size - at) input) text ≡ patch 0 (take (length text) (part at n input)) text
-unfolding part
-part-laid at n size input text e fits =
-    let whole : at + size - at ≡ size = omega arith in
-    rw (whole, e, take-least n (length text) (drop at input))

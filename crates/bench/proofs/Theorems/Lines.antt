@@ -12,7 +12,7 @@ use Rattle.gap.specs.Rules.Strings.{bytes}
 use Rattle.gap.specs.Rules.Fields.{line_at, next_at}
 use Rattle.gap.proofs.Laws.Tests.{decided, and_left, and_right, and_both, cond-true, cond-false}
 use Rattle.gap.proofs.Laws.Sequence.{begins-split}
-use Rattle.bench.specs.Words.{Key, Named, Unnamed, Pressed, Finished, Unknown}
+use Rattle.bench.specs.Words.{Some, None, Key, Pressed, Finished, Unknown}
 use Rattle.bench.specs.Rules.Names.{key_named}
 use Rattle.bench.specs.Rules.Script.{text_there, key_of, read_as, reading_at}
 use Rattle.bench.proofs.Theorems.Names.{key_name, named-only}
@@ -32,21 +32,21 @@ pub key-line : (name : List ℕ) → key_of (bytes "key=" ++ name) ≡ key_named
 unfolding same_bytes begins bytes key_of
 key-line name = refl
 
-pub key-lines-only : (line : List ℕ) (k : Key) → key_of line ≡ Named k → line ≡ bytes "key=" ++ key_name k
+pub key-lines-only : (line : List ℕ) (k : Key) → key_of line ≡ Some k → line ≡ bytes "key=" ++ key_name k
 unfolding bytes key_of
 key-lines-only line k e =
     ⊎_elim
     (λ so.
     begins-split (bytes "key=") line so
     ∙ ap (λ name. bytes "key=" ++ name) (named-only (drop 4 line) k (sym (cond-true _ _ so) ∙ e)))
-    (λ not_so. let none : Unnamed ≡ Named k = sym (cond-false _ _ not_so) ∙ e in absurd (false≢true cc))
+    (λ not_so. let none : None ≡ Some k = sym (cond-false _ _ not_so) ∙ e in absurd (false≢true cc))
     (decided (begins (bytes "key=") line))
 
 -- Each line is read as what it names, and the next one follows it; behind the input there is none.
 pub lines-read : (s : List ℕ) (at : ℕ)
     → (at < length s
-    → ((k : Key) → key_of (line_at s at) ≡ Named k → reading_at s at ≡ Pressed k (next_at s at))
-    × (key_of (line_at s at) ≡ Unnamed → reading_at s at ≡ Unknown))
+    → ((k : Key) → key_of (line_at s at) ≡ Some k → reading_at s at ≡ Pressed k (next_at s at))
+    × (key_of (line_at s at) ≡ None → reading_at s at ≡ Unknown))
     × (length s ≤ at → reading_at s at ≡ Finished)
 unfolding reading_at
 lines-read s at = (

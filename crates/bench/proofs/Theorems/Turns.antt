@@ -9,7 +9,7 @@ use native.Mathlib.Nat.{zero-add, suc-add}
 use native.Mathlib.Omega.{arith}
 use lib.ListN.{length}
 use borrow.Author.Tests.{eq-eqb, ne_eqb}
-use Rattle.bench.specs.Words.{Key, Header, Headed, Reading, Pressed, Finished, Unknown}
+use Rattle.bench.specs.Words.{Ok, Key, Header, Reading, Pressed, Finished, Unknown}
 use Rattle.bench.specs.Rules.Script.{heading_of, reading_at}
 use Rattle.bench.specs.Rules.Print.{block, script_line}
 use Rattle.gap.specs.Rules.Fields.{line_number}
@@ -18,7 +18,7 @@ use Rattle.gap.proofs.Laws.Writers.{one_written}
 use Rattle.window.specs.declared.Session.{Session}
 use Rattle.window.specs.Rules.Core.{Lent, Called, opened, keyed}
 use Rattle.bench.specs.declared.Turn.{Turn}
-use Rattle.bench.specs.Wording.Turns.{state_of, Does}
+use Rattle.bench.specs.Wording.Turns.{Does}
 use Rattle.bench.specs.Rules.Run.{beginning, State, Turned, laid_out, opening_turn, pressed_turn, read, next_turn, turns, fresh, printed_from, output}
 use Rattle.bench.proofs.Laws.Scripts.{pressed-goes-on, headed-inside}
 use Rattle.bench.proofs.Laws.Beginnings.{begun-as}
@@ -69,7 +69,7 @@ turns-enough (suc n) k input t enough =
     )
 
 -- So it is from the opening on: a header has a byte at least, and the text stands within the input.
-pub all-turns : (k : ℕ) (input : List ℕ) (h : Header) (b : Lent) → heading_of input ≡ Headed h
+pub all-turns : (k : ℕ) (input : List ℕ) (h : Header) (b : Lent) → heading_of input ≡ Ok h
     → turns (length input + k) input (opening_turn h input b) ≡ turns (length input) input (opening_turn h input b)
 unfolding opening_turn
 all-turns k input h b e =
@@ -78,7 +78,7 @@ all-turns k input h b e =
     (record { inside = λ going. omega (arith, inside); left = λ going. omega (arith, inside) })
 
 -- So the program prints every turn, however many are allowed.
-pub all-printed : (k : ℕ) (input : List ℕ) (h : Header) → beginning input ≡ Headed h
+pub all-printed : (k : ℕ) (input : List ℕ) (h : Header) → beginning input ≡ Ok h
     → output input ≡ turns (length input + k) input (opening_turn h input (fresh h))
 unfolding output
 all-printed k input h e = ap (printed_from input) e ∙ sym (all-turns k input h (fresh h) (begun-as input h (sym e)).0)
@@ -142,10 +142,7 @@ each_turn n input t k next going e =
 -- Two turns of the code that do the same turn of the definitions are the same: what is left, the stores, and what is printed.
 pub one-turn : {turned : Turned} {t u : Turn} {b c : Lent} {old new other : List ℕ} → Does turned t b old new → Does turned u c old other
     → (t ≡ u) × (b ≡ c) × (new ≡ other)
-one-turn {turned} {t} {u} {b} {c} v w =
-    let left : state_of t b ≡ state_of u c = v.state ∙ sym w.state in
-    let printed = one_written v.prints w.prints in (
-      λ i. record { going = (left i).going; at = (left i).at; session = (left i).session; printed = printed.0 i },
-      λ i. (left i).lent,
-      printed.1,
-    )
+one-turn v w =
+    let next = v.next ∙ sym w.next in
+    let printed = one_written v.prints w.prints in
+    (λ i. record { printed = printed.0 i; next = next i }, v.stores ∙ sym w.stores, printed.1)

@@ -1,17 +1,10 @@
 -- `play` ends: each turn that goes on is further along in the input.
-use mathlib.Core.Path.{refl}
 use native.Mathlib.Omega.{arith}
 use Rattle.bench.proofs.Laws.Turning.{opening-inside}
 use Rattle.bench.proofs.play.Goals as goal
 
-pub loop-going-init : goal.loop-going-init
-loop-going-init g c = (
-  opening-inside _ _ _ _ _ _ _ c.opening-turn.ensures c.requires.length_in_bounds,
+pub loop-turn-init : goal.loop-turn-init
+loop-turn-init g c = (
+  opening-inside c.args.h _ _ _ _ _ _ c.opening-turn.ensures.does c.requires.length_in_bounds,
   omega (arith, c.opening-turn.auto.out, c.requires.in_bounds),
-  refl,
-  refl,
-  refl,
-  refl,
-  refl,
-  refl,
 )

@@ -2,20 +2,14 @@
 use mathlib.Core.Path.{◌≡◌}
 use Prim.Native.Nat.{◌≤◌}
 use lib.ListN.{length}
+use Rattle.bench.specs.Words.{Some}
+use Rattle.bench.specs.declared.Next.{Next}
 use Rattle.bench.proofs.Laws.Turning.{turns_left}
 use Rattle.bench.proofs.play.Given as goal
 
--- The next line is within the input, and no store has another length than at the loop's start.
-abbrev pub invariant-loop-going : goal.invariant-loop-going
-invariant-loop-going g l =
-    (l.turn.at ≤ length l.input)
-    × (17408 ≤ length l.out)
-    × (length l.text ≡ length l.initial.text)
-    × (length l.recall ≡ length l.initial.recall)
-    × (length l.held ≡ length l.initial.held)
-    × (length l.side ≡ length l.initial.side)
-    × (length l.screen ≡ length l.initial.screen)
-    × (length l.out ≡ length l.initial.out)
+-- The next line is within the input, and what is printed has room.
+abbrev pub invariant-loop-turn : goal.invariant-loop-turn
+invariant-loop-turn g l = ((next : Next) → l.turn.next ≡ Some next → next.at ≤ length l.input) × (17408 ≤ length l.out)
 
-abbrev pub decreases-loop-going : goal.decreases-loop-going
-decreases-loop-going g l = turns_left l.going l.turn (length l.input)
+abbrev pub decreases-loop-turn : goal.decreases-loop-turn
+decreases-loop-turn g l = turns_left l.turn.next (length l.input)

@@ -5,5 +5,5 @@ use Rattle.bench.proofs.start.Goals as goal
 
 pub lend-requires : goal.lend-requires
 lend-requires g c =
-    let both = begun _ _ (sym c.in-Headed.is ∙ c.begin-heading.ensures) in
+    let both = begun _ _ (sym c.in-Ok.is ∙ c.begin.ensures) in
     record { length_in_bounds = both.0; store_bound = both.1 }

@@ -1,14 +1,14 @@
 -- The names of the keys. (01, the bench program: keys.)
-use Rattle.std.specs.Prelude.{List, [], ◌∷◌, ◌++◌, map, cond, ℕ, ◌-◌, leb, length, drop, get_or, Option, Some, None}
+use Rattle.std.specs.Prelude.{List, [], ◌∷◌, ◌++◌, map, cond, ℕ, leb, drop, get_or}
 use Prim.Native.String.{String}
+use Rattle.bench.specs.Words.{Option, Some, None}
 use Rattle.bench.specs.Words.{Direction, Left, Right, Action, Move, Delete}
 use Rattle.bench.specs.Words.{Place, Character, Word, LineBeginning, LineEnding, Document, Key, Insert, Function, Recall, Quote}
-use Rattle.bench.specs.Words.{Find, Replace, Mark, Cut, Paste, Newline, Tab, Naming, Named, Unnamed, Entry}
-use Rattle.gap.specs.Rules.Sequence.{same_bytes, begins, zeros}
+use Rattle.bench.specs.Words.{Find, Replace, Mark, Cut, Paste, Newline, Tab}
+use Rattle.gap.specs.Rules.Sequence.{same_bytes, begins}
 use Rattle.gap.specs.Rules.Strings.{bytes}
 use Rattle.gap.specs.Rules.Nearest.{nearest}
 use Rattle.gap.specs.Rules.Decimal.{number_of}
-use Rattle.window.specs.Rules.Host.{action_number, direction_number, place_number}
 
 -- ---- Function keys
 
@@ -53,28 +53,21 @@ combination_at i = get_or combinations i (record { action = Move; direction = Le
 abbrev pub function_of : Combination → Key
 function_of c = Function c.action c.direction c.place
 
--- A row of the constant table: the combination in the numbers of the host's boundary, the length of its name, and its name filled up
--- with zeros.
-abbrev pub width_of_names : ℕ
-width_of_names = 24
+-- A row of the constant table: a name, and the key that it names.
+pub record Entry : Type 0 where
+  pub name : List ℕ
+  pub key : Key
 
 abbrev pub entry_of : Combination → Entry
-entry_of c =
-    record {
-      action = action_number c.action;
-      direction = direction_number c.direction;
-      place = place_number c.place;
-      length = length (name_of c);
-      name = name_of c ++ zeros (width_of_names - length (name_of c));
-    }
+entry_of c = record { name = name_of c; key = function_of c }
 
 -- ---- Any key
 
-abbrev pub at_row : Option ℕ → Naming
-at_row (Some i) = Named (function_of (combination_at i))
-at_row None = Unnamed
+abbrev pub at_row : Option ℕ → Option Key
+at_row (Some i) = Some (function_of (combination_at i))
+at_row None = None
 
-unfoldable pub function_named : List ℕ → Naming
+unfoldable pub function_named : List ℕ → Option Key
 function_named name = at_row (nearest (λ i. same_bytes name (name_of (combination_at i))) 20 0)
 
 -- How many digits a number may have. (01, the bench program: numbers.)
@@ -82,26 +75,26 @@ abbrev pub most_digits : ℕ
 most_digits = 5
 
 -- An insert's number is a byte. Whether the byte is allowed is the core's to say. (01, the bench program: at most 255. DECISIONS A9.)
-abbrev pub insert_numbered : Option ℕ → Naming
-insert_numbered (Some n) = cond (leb n 255) (Named (Insert n)) Unnamed
-insert_numbered None = Unnamed
+abbrev pub insert_numbered : Option ℕ → Option Key
+insert_numbered (Some n) = cond (leb n 255) (Some (Insert n)) None
+insert_numbered None = None
 
 -- The keys that indent. (02, M-105. DECISIONS C6.)
-unfoldable pub indent_named : List ℕ → Naming
+unfoldable pub indent_named : List ℕ → Option Key
 indent_named name =
-    cond (same_bytes name (bytes "newline")) (Named Newline) (cond (same_bytes name (bytes "tab")) (Named Tab) (function_named name))
+    cond (same_bytes name (bytes "newline")) (Some Newline) (cond (same_bytes name (bytes "tab")) (Some Tab) (function_named name))
 
 -- The keys about the mark. (02, M-101. DECISIONS C6.)
-unfoldable pub mark_named : List ℕ → Naming
+unfoldable pub mark_named : List ℕ → Option Key
 mark_named name =
-    cond (same_bytes name (bytes "mark")) (Named Mark)
-    (cond (same_bytes name (bytes "cut")) (Named Cut) (cond (same_bytes name (bytes "paste")) (Named Paste) (indent_named name)))
+    cond (same_bytes name (bytes "mark")) (Some Mark)
+    (cond (same_bytes name (bytes "cut")) (Some Cut) (cond (same_bytes name (bytes "paste")) (Some Paste) (indent_named name)))
 
-unfoldable pub key_named : List ℕ → Naming
+unfoldable pub key_named : List ℕ → Option Key
 key_named name =
     cond (begins (bytes "insert-") name) (insert_numbered (number_of most_digits (drop 7 name)))
-    (cond (same_bytes name (bytes "recall")) (Named Recall)
-    (cond (same_bytes name (bytes "quote")) (Named Quote)
-    (cond (same_bytes name (bytes "find")) (Named (Find Right))
-    (cond (same_bytes name (bytes "upfind")) (Named (Find Left))
-    (cond (same_bytes name (bytes "replace")) (Named Replace) (mark_named name))))))
+    (cond (same_bytes name (bytes "recall")) (Some Recall)
+    (cond (same_bytes name (bytes "quote")) (Some Quote)
+    (cond (same_bytes name (bytes "find")) (Some (Find Right))
+    (cond (same_bytes name (bytes "upfind")) (Some (Find Left))
+    (cond (same_bytes name (bytes "replace")) (Some Replace) (mark_named name))))))

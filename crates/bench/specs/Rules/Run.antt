@@ -1,12 +1,12 @@
 -- What the program does with its input, and all that it prints. (01, the bench program.)
 use Rattle.std.specs.Prelude.{List, [], ◌++◌, Bool, true, false, cond, ℕ, zero, suc, ◌+◌, ◌*◌, eqb, leb, length, take}
-use Rattle.bench.specs.Words.{Key, Header, Heading, Headed, Broken, Reading, Pressed, Finished, Unknown}
+use Rattle.bench.specs.Words.{Result, Ok, Err, Key, Header, Broken, Reading, Pressed, Finished, Unknown}
 use Rattle.gap.specs.Rules.Sequence.{part, patch, zeros}
 use Rattle.gap.specs.Rules.Fields.{line_number}
 use Rattle.editor.specs.Rules.Bytes.{quarter}
 use Rattle.window.specs.declared.Session.{Session}
 use Rattle.window.specs.Rules.Core.{Lent, Called, rows_and_columns, opened, keyed}
-use Rattle.bench.specs.Rules.Script.{heading_of, reading_at}
+use Rattle.bench.specs.Rules.Script.{broken, heading_of, reading_at}
 use Rattle.bench.specs.Rules.Print.{block, script_line}
 
 -- ---- The beginning
@@ -17,13 +17,13 @@ longest_input = 8192
 abbrev pub largest_store : ℕ
 largest_store = 4096
 
-abbrev pub unless_large : Heading → Heading
-unless_large (Headed h) = cond (leb h.store largest_store) (Headed h) (Broken 0)
-unless_large (Broken line) = Broken line
+abbrev pub unless_large : Result Header Broken → Result Header Broken
+unless_large (Ok h) = cond (leb h.store largest_store) (Ok h) (broken 0)
+unless_large (Err e) = Err e
 
 -- Too long an input is found before any line is read, too large a store after the text. (DECISIONS A3, A11.)
-unfoldable pub beginning : List ℕ → Heading
-beginning input = cond (leb (length input) longest_input) (unless_large (heading_of input)) (Broken 0)
+unfoldable pub beginning : List ℕ → Result Header Broken
+beginning input = cond (leb (length input) longest_input) (unless_large (heading_of input)) (broken 0)
 
 -- ---- The turns
 
@@ -101,9 +101,9 @@ fresh h =
       screen = zeros (screen_size h.rows h.columns);
     }
 
-abbrev pub printed_from : List ℕ → Heading → List ℕ
-printed_from input (Headed h) = turns (length input) input (opening_turn h input (fresh h))
-printed_from input (Broken line) = script_line line
+abbrev pub printed_from : List ℕ → Result Header Broken → List ℕ
+printed_from input (Ok h) = turns (length input) input (opening_turn h input (fresh h))
+printed_from input (Err e) = script_line e.line
 
 unfoldable pub output : List ℕ → List ℕ
 output input = printed_from input (beginning input)

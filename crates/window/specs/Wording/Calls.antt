@@ -5,7 +5,7 @@ use Rattle.gap.specs.Rules.Doc.{Doc}
 use Rattle.gap.specs.Rules.Lines.{newlines}
 use Rattle.gap.specs.Rules.Layout.{ungap}
 use Rattle.editor.specs.declared.refusals.Refusal.{Refusal}
-use Rattle.editor.specs.Rules.Refusals.{SIZE, LONG, TEXT, LINE, number}
+use Rattle.editor.specs.Rules.Refusals.{number}
 use Rattle.editor.specs.Rules.Plain.{Plain, Did}
 use Rattle.editor.specs.Rules.Bytes.{Stores, EditorReply, quarter, quarter_of, plain_of}
 use Rattle.editor.specs.Wording.Promise.{Sound, stores}
@@ -13,7 +13,7 @@ use Rattle.window.specs.declared.Spot.{Spot}
 use Rattle.window.specs.declared.Rows.{Rows}
 use Rattle.window.specs.declared.Accepted.{Accepted}
 use Rattle.window.specs.declared.Unopened.{Unopened}
-use Rattle.window.specs.declared.Unopened.TheVariants as unopened
+use Rattle.window.specs.Wording.Unopened.{refusal_in, place_in}
 use Rattle.window.specs.Rules.Window.{virtual_in, row_of, column_of, window, policy_row, policy_column}
 use Rattle.window.specs.Rules.Rows.{first_row, last_row}
 use Rattle.window.specs.Rules.Core.{Lent, Reply, Called, tabled, session_in, refusal, zero_record, shown}
@@ -106,10 +106,7 @@ accepted_reply a =
     }
 
 abbrev pub unopened_of : Unopened → Reply
-unopened_of unopened.Size = unopened_reply SIZE 0
-unopened_of unopened.Long = unopened_reply LONG 0
-unopened_of (unopened.Text place) = unopened_reply TEXT place
-unopened_of (unopened.Line place) = unopened_reply LINE place
+unopened_of why = unopened_reply (number (refusal_in why)) (place_in why)
 
 abbrev pub open_reply : Result Accepted Unopened → Reply
 open_reply (Ok a) = accepted_reply a

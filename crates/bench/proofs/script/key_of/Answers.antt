@@ -1,23 +1,21 @@
--- `script::key_of` meets its contract: a line that begins with `key=` has four bytes, and what stands behind them is lent.
+-- `script::key_of` meets its contract: the key stands behind `key=`.
+use mathlib.Core.Path.{sym, ap, ◌∙◌}
 use Rattle.gap.specs.Rules.Strings.{bytes}
-use Rattle.bench.specs.Words.{Unnamed}
+use Rattle.gap.proofs.Laws.Tests.{cond-true, cond-false}
 use Rattle.bench.specs.Rules.Names.{key_named}
 use Rattle.bench.specs.Rules.Script.{key_of}
-use Rattle.gap.proofs.Laws.Fields.{word_fits, word_none, word_read}
-use mathlib.Core.Path.{ap}
-use mathlib.Core.Bool.{not}
+use Rattle.bench.proofs.Laws.KeyNames.{fronted}
 use Rattle.bench.proofs.script.key_of.Goals as goal
 
-pub returns-then-not-begins_with : goal.returns-then-not-begins_with
+pub returns-in_err-strip_prefix : goal.returns-in_err-strip_prefix
 unfolding bytes key_of
-returns-then-not-begins_with c = word_none _ _ c.begins_with.ensures key_named Unnamed (ap not c.if-not-begins_with.true)
-
-pub slice_bounds-key_named-count : goal.slice_bounds-key_named-count
-slice_bounds-key_named-count c = word_fits _ _ c.begins_with.ensures (ap not c.if-not-begins_with.false)
-
-pub slice_bounds-key_named-start : goal.slice_bounds-key_named-start
-slice_bounds-key_named-start c = word_fits _ _ c.begins_with.ensures (ap not c.if-not-begins_with.false)
+returns-in_err-strip_prefix c =
+    c.from_residual.ensures ∙ sym (cond-false _ _ (sym (fronted (bytes "key=") c.args.line.now) ∙ c.in_err-strip_prefix.ensures.cases))
 
 pub returns : goal.returns
 unfolding bytes key_of
-returns c = word_read _ _ c.begins_with.ensures key_named Unnamed (ap not c.if-not-begins_with.false) c.key_named.ensures
+returns c =
+    let word = c.in_ok-strip_prefix.ensures.cases in
+    c.key_named.ensures
+    ∙ ap key_named word.1
+    ∙ sym (cond-true _ _ (sym (fronted (bytes "key=") c.args.line.now) ∙ word.0))

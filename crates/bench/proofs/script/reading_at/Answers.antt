@@ -1,10 +1,7 @@
 -- `script::reading_at` meets its contract: a line is there, it is lent, and its key decides.
 use Rattle.gap.proofs.Laws.LinePlaces.{line-starts, line-inside}
-use Rattle.bench.proofs.Laws.Scripts.{reading-finished, reading-unknown, reading-pressed}
+use Rattle.bench.proofs.Laws.Scripts.{reading-unknown, reading-pressed}
 use Rattle.bench.proofs.script.reading_at.Goals as goal
-
-pub returns-then-s-at : goal.returns-then-s-at
-returns-then-s-at c = reading-finished _ _ c.if-s-at.true
 
 pub slice_bounds-key_of-count : goal.slice_bounds-key_of-count
 slice_bounds-key_of-count c = line-starts _ _ c.end_at-end.ensures
@@ -15,9 +12,9 @@ slice_bounds-key_of-start c = line-starts _ _ c.end_at-end.ensures
 pub slice_bounds-key_of-end : goal.slice_bounds-key_of-end
 slice_bounds-key_of-end c = line-inside _ _ c.end_at-end.ensures c.requires
 
-pub returns-in_default : goal.returns-in_default
-returns-in_default c = reading-unknown _ _ c.end_at-end.ensures c.if-s-at.false c.key_of.ensures c.in_default.is
+pub returns-in-None : goal.returns-in-None
+returns-in-None c = reading-unknown _ _ c.end_at-end.ensures c.if-s-at.false c.key_of.ensures c.in-None.is
 
-pub returns : goal.returns
-returns c =
-    reading-pressed _ _ c.end_at-end.ensures c.if-s-at.false c.key_of.ensures c.in-Named.is c.next_at.ensures
+pub returns-in-Some : goal.returns-in-Some
+returns-in-Some c =
+    reading-pressed _ _ c.end_at-end.ensures c.if-s-at.false c.key_of.ensures c.in-Some.is c.next_at.ensures
