@@ -1,5 +1,4 @@
 -- The test of sizes and the session test, each taken apart into what it asks, and put together again.
-use Rattle.std.proofs.Common.{Some}
 use mathlib.Core.Path.{◌≡◌}
 use mathlib.Core.Bool.{Bool, true, ◌&&◌}
 use Prim.Native.Nat.{ℕ, ◌+◌, ◌*◌, ◌≤◌}
@@ -24,7 +23,7 @@ pub record Measured (Q : ℕ) (b : Stores) : Type 0 where
   pub side : length b.side ≡ 4 * Q
 
 -- What the session test asks, test by test, under the names that SoundTexts and SoundPlain have for them.
-pub record Some (Q : ℕ) (n : Lengths) (b : Stores) : Type 0 where
+pub record Passed (Q : ℕ) (n : Lengths) (b : Stores) : Type 0 where
   pub text : sound_gap n.main.l n.main.r b.text ≡ true
   pub lines : lines_fit longest_line (content (ungap n.main.l n.main.r b.text)) ≡ true
   pub recall : sound_pair n.main.rl n.main.rr b.recall ≡ true
@@ -64,7 +63,7 @@ module _ (Q : ℕ) (b : Stores) where
       (and_both (and_both (eq-eqb _ _ m.recall) (eq-eqb _ _ m.held)) (eq-eqb _ _ m.side))
 
 module _ (Q : ℕ) (n : Lengths) (b : Stores) where
-  pub passed : editor_ok Q n b ≡ true → Some Q n b
+  pub passed : editor_ok Q n b ≡ true → Passed Q n b
   unfolding editor_ok
   passed e =
       let lines : Bool = lines_fit longest_line (content (ungap n.main.l n.main.r b.text)) in
@@ -89,7 +88,7 @@ module _ (Q : ℕ) (n : Lengths) (b : Stores) where
         mode = and_right (one_half (holding_sizes n)) _ others;
       }
 
-  pub passed_ok : Some Q n b → editor_ok Q n b ≡ true
+  pub passed_ok : Passed Q n b → editor_ok Q n b ≡ true
   unfolding editor_ok
   passed_ok t =
       and_both (and_both (and_both t.text t.lines) t.recall)
