@@ -63,14 +63,17 @@ fn substitute(here: bool, n: Lengths, text: &mut [u8], recall: &mut [u8], side: 
     let l = main.l;
     let r = main.r;
     let pl = n.pl;
-    let x = n.xl;
-    let y = n.xr;
     let end = 2 * QUARTER + pl;
     drop_right(text, l, r, pl);
-    place_pair(text, l, r - pl, &side[3 * QUARTER..4 * QUARTER], x, y);
+    place_pair(
+        text,
+        l,
+        r - pl,
+        View::of_pair(&side[3 * QUARTER..4 * QUARTER], n.xl, n.xr),
+    );
     hold(recall, &side[2 * QUARTER..end]);
-    main.l = l + x;
-    main.r = r - pl + y;
+    main.l = l + n.xl;
+    main.r = r - pl + n.xr;
     main.rl = 0;
     main.rr = pl;
     let done = SideDone {

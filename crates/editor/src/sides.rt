@@ -178,10 +178,11 @@ pub fn recall_side(
     if text.len() - (l + r) < rl + rr {
         return Err(Refusal::Full);
     }
-    if !pair_fits(limit, View::of(text, l, r), View::of_pair(recall, rl, rr)) {
+    let pair = View::of_pair(recall, rl, rr);
+    if !pair_fits(limit, View::of(text, l, r), pair) {
         return Err(Refusal::Line);
     }
-    place_pair(text, l, r, recall, rl, rr);
+    place_pair(text, l, r, pair);
     let mut m = n;
     m.l = l + rl;
     m.r = r + rr;

@@ -30,22 +30,24 @@ drop_right-requires c =
 pub overflow_sub-r : goal.overflow_sub-r
 overflow_sub-r c = (exchangeable quarter _ _ c.requires.1 (sym c.requires.2.known ∙ c.if-not-here.false) c.requires.2.room c.requires.2.lines).stands
 
-pub slice_bounds-place_pair-end : goal.slice_bounds-place_pair-end
+pub slice_bounds-of_pair-end : goal.slice_bounds-of_pair-end
 unfolding quarter
-slice_bounds-place_pair-end c = omega (arith, fitting quarter _ _ c.requires.1)
+slice_bounds-of_pair-end c = omega (arith, fitting quarter _ _ c.requires.1)
+
+pub of_pair-requires : goal.of_pair-requires
+unfolding quarter
+of_pair-requires c = simp (length-take, length-drop) (omega (arith, fitting quarter _ _ c.requires.1))
 
 pub place_pair-requires : goal.place_pair-requires
 unfolding quarter
 place_pair-requires c =
     record {
       gap = pattern-dropped quarter _ _ c.requires.1 _ c.drop_right.ensures;
-      y_in_bounds = (
-        omega (
-          arith,
-          (exchangeable quarter _ _ c.requires.1 (sym c.requires.2.known ∙ c.if-not-here.false) c.requires.2.room c.requires.2.lines),
-          c.drop_right.auto.s,
-        ),
-        simp (length-take, length-drop) (omega (arith, fitting quarter _ _ c.requires.1)),
+      in_bounds = omega (
+        arith,
+        (exchangeable quarter _ _ c.requires.1 (sym c.requires.2.known ∙ c.if-not-here.false) c.requires.2.room c.requires.2.lines),
+        c.drop_right.auto.s,
+        c.of_pair.ensures.lengths,
       );
     }
 
@@ -95,4 +97,4 @@ returns c =
     let room = substituted-unheld _ _ (unpair _ _ kept) (plain_of quarter _ (stores _ _ c.requires.0 _)) ∙ c.requires.2.room in
     let lines = substituted-lines (unpair _ _ kept) (plain_of quarter _ (stores _ _ c.requires.0 _)) ∙ c.requires.2.lines in
     substitute-done quarter _ _ sound match room lines _ _ _ _ c.drop_right.ensures
-    c.place_pair.ensures c.hold.ensures (ap editor_done c.lifted.ensures) refl refl
+    (rw c.of_pair.ensures.holds at c.place_pair.ensures) c.hold.ensures (ap editor_done c.lifted.ensures) refl refl

@@ -11,8 +11,8 @@ returns-then-text-l c = recall-refused c.requires refl c.if-text-l.true
 pub of-requires : goal.of-requires
 of-requires c = c.requires.gap.fits
 
-pub of_pair-requires : goal.of_pair-requires
-of_pair-requires c = c.requires.pair.fits
+pub of_pair-pair-requires : goal.of_pair-pair-requires
+of_pair-pair-requires c = c.requires.pair.fits
 
 pub pair_fits-requires : goal.pair_fits-requires
 pair_fits-requires c =
@@ -22,16 +22,19 @@ pair_fits-requires c =
         c.requires.gap.fits,
         c.if-text-l.false,
         c.of.ensures.lengths,
-        c.of_pair.ensures.lengths,
+        c.of_pair-pair.ensures.lengths,
       );
       halves_fit = rw c.of.ensures.holds (halves-fit _ _ c.requires.lines);
     }
 
 pub returns-then-not-pair_fits : goal.returns-then-not-pair_fits
 returns-then-not-pair_fits c =
-    recall-long c.requires refl c.if-text-l.false (sym (rw (c.of.ensures.holds, c.of_pair.ensures.holds) at c.pair_fits.ensures) ∙ c.if-not-pair_fits.true)
+    recall-long c.requires refl c.if-text-l.false (sym (rw (c.of.ensures.holds, c.of_pair-pair.ensures.holds) at c.pair_fits.ensures) ∙ c.if-not-pair_fits.true)
+
+pub place_pair-requires : goal.place_pair-requires
+place_pair-requires c = record { gap = c.requires.gap; in_bounds = omega (arith, c.requires.gap.fits, c.if-text-l.false, c.of_pair-pair.ensures.lengths) }
 
 pub returns : goal.returns
 returns c =
-    recall-done c.requires refl refl c.if-text-l.false (sym (rw (c.of.ensures.holds, c.of_pair.ensures.holds) at c.pair_fits.ensures) ∙ c.if-not-pair_fits.false)
-    c.place_pair.ensures
+    recall-done c.requires refl refl c.if-text-l.false (sym (rw (c.of.ensures.holds, c.of_pair-pair.ensures.holds) at c.pair_fits.ensures) ∙ c.if-not-pair_fits.false)
+    (rw c.of_pair-pair.ensures.holds at c.place_pair.ensures)
