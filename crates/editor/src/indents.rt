@@ -1,4 +1,5 @@
-// NEWLINE and TAB on one side, of whose text no line is longer than a limit. The recall text stays, so that it is not lent.
+// A byte with spaces behind it, as NEWLINE and TAB put it in, on one side, of whose text no line is longer than a limit. The recall text
+// stays, so that it is not lent.
 ghost use Rattle.std.specs.Prelude.{◌≡◌, true, ◌∷◌};
 ghost use Rattle.gap.specs.Rules.Doc.{content};
 ghost use Rattle.gap.specs.Rules.Indents.{spaces};
@@ -16,8 +17,8 @@ use gap::lines::since_newline;
 use gap::texts::insert_spaced;
 use gap::views::View;
 
-// A byte and k spaces behind it go in, all of them or none.
-fn spaced_side(
+// A byte and k spaces behind it go in, all of them or none. Whether they fit is known before anything is written.
+pub fn spaced_side(
     limit: usize,
     b: u8,
     k: usize,

@@ -8,37 +8,24 @@ ghost use Rattle.editor.specs.declared.Action.TheVariants.{Move, Delete};
 ghost use Rattle.editor.specs.Rules.Keys.{inserted, carried, function, recalled};
 ghost use Rattle.editor.specs.Wording.Promise.{room_of, OnSide, EditsSide, EditsText, editing, side_reply, side_done};
 
-use crate::indents::{newline_side, tab_side};
+use crate::indents::{newline_side, spaced_side, tab_side};
 use crate::passages::place_passage;
 use crate::records::{QUIET, RANG, moved_by, went};
 use crate::refusals::Refusal;
-use crate::splices::{join_fits, pair_fits, run_fits};
+use crate::splices::{join_fits, pair_fits};
 use crate::{Action, Edit, Passage, Place, SideDone, Sizes};
 use gap::Direction;
-use gap::texts::{delete_left, delete_right, insert, move_left, move_right, place_pair};
+use gap::texts::{delete_left, delete_right, move_left, move_right, place_pair};
 use gap::views::View;
 
-// A byte goes in. Whether it fits is known before anything is written.
+// A byte goes in, with no spaces behind it, and is not reported as a step.
 pub fn insert_side(limit: usize, b: u8, n: Sizes, text: &mut [u8]) -> Result<SideDone, Refusal>
     requires gap { IsGap n.l n.r text.old }
     requires text_value { lines_fit limit (content (ungap n.l n.r text.old)) ≡ true }
     ensures { EditsText limit (side_reply n result) n (inserted b) text.old text.new }
 {
-    let l = n.l;
-    let r = n.r;
-    if text.len() <= l + r {
-        return Err(Refusal::Full);
-    }
-    if !run_fits(limit, b, 0, View::of(text, l, r)) {
-        return Err(Refusal::Line);
-    }
-    insert(text, l, r, b);
-    let mut m = n;
-    m.l = l + 1;
-    Ok(SideDone {
-        report: QUIET,
-        sizes: m,
-    })
+    let t = spaced_side(limit, b, 0, n, text)?;
+    Ok(SideDone { report: QUIET, ..t })
 }
 
 // The cursor of a gap store goes d bytes.

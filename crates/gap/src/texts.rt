@@ -30,15 +30,6 @@ pub fn move_right(s: &mut [u8], l: usize, r: usize, d: usize)
     shift(s, back, l, d);
 }
 
-// A byte goes in left of the cursor.
-pub fn insert(s: &mut [u8], l: usize, r: usize, b: u8)
-    requires gap { IsGap l r s.old }
-    requires r_in_bounds { l + r < length s.old }
-    ensures { s.new ≡ gapped (length s.old) (splice 0 0 (record { l = b ∷ []; r = [] }) (ungap l r s.old)) }
-{
-    s[l] = b;
-}
-
 // A byte and n spaces behind it go in left of the cursor.
 pub fn insert_spaced(s: &mut [u8], l: usize, r: usize, b: u8, n: usize)
     requires gap { IsGap l r s.old }

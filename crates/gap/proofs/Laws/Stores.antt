@@ -156,14 +156,10 @@ module _ {l r : ℕ} {s : List ℕ} (gap : IsGap l r s) where
   gap-inserted p h =
       rw (left, right, gap.holds) at (inserted (length s) (ungap l r s) sizes p (rw (left, right) h))
 
-  -- A run goes in at the front of the gap; so does a byte, and a byte with spaces behind it.
+  -- A run goes in at the front of the gap; so does a byte with spaces behind it.
   run-inserted : (run : List ℕ) → l + r + length run ≤ length s
       → patch l run s ≡ gapped (length s) (splice 0 0 (record { l = run; r = [] }) (ungap l r s))
   run-inserted run h = sym (patch-none _ (length s - r - 0)) ∙ gap-inserted (record { l = run; r = [] }) (omega arith)
-
-  pub inserts : (b : ℕ) → l + r < length s
-      → set s l b ≡ gapped (length s) (splice 0 0 (record { l = b ∷ []; r = [] }) (ungap l r s))
-  inserts b h = patch-one s l b (omega arith) ∙ run-inserted (b ∷ []) (omega arith)
 
   pub inserts-spaced : (b n : ℕ) → l + r + n < length s
       → patch (l + 1) (replicate n space) (set s l b) ≡ gapped (length s) (splice 0 0 (record { l = b ∷ spaces n; r = [] }) (ungap l r s))
