@@ -13,7 +13,7 @@ use crate::quotations::hand_quotation;
 use crate::records::{QUIET, RANG, lifted, pattern_taken, replacement_taken};
 use crate::refusals::Refusal;
 use crate::sides::move_side;
-use crate::{EditorDone, LONGEST_LINE, Lengths, Mode, QUARTER, SideDone};
+use crate::{EditorDone, LONGEST_LINE, Lengths, Mode, QUARTER, SideDone, Sizes};
 use gap::Direction;
 use gap::line_limits::runs_fit;
 use gap::runs::hold;
@@ -59,26 +59,21 @@ fn substitute(here: bool, n: Lengths, text: &mut [u8], recall: &mut [u8], side: 
             lengths: n,
         };
     }
-    let mut main = n.main;
-    let l = main.l;
-    let r = main.r;
-    let pl = n.pl;
-    let end = 2 * QUARTER + pl;
-    drop_right(text, l, r, pl);
-    place_pair(
-        text,
-        l,
-        r - pl,
-        View::of_pair(&side[3 * QUARTER..4 * QUARTER], n.xl, n.xr),
-    );
+    let main = n.main;
+    let rest = main.r - n.pl;
+    let replacement = View::of_pair(&side[3 * QUARTER..4 * QUARTER], n.xl, n.xr);
+    let end = 2 * QUARTER + n.pl;
+    drop_right(text, main.l, main.r, n.pl);
+    place_pair(text, main.l, rest, replacement);
     hold(recall, &side[2 * QUARTER..end]);
-    main.l = l + n.xl;
-    main.r = r - pl + n.xr;
-    main.rl = 0;
-    main.rr = pl;
     let done = SideDone {
         report: QUIET,
-        sizes: main,
+        sizes: Sizes {
+            l: main.l + n.xl,
+            r: rest + n.xr,
+            rl: 0,
+            rr: n.pl,
+        },
     };
     lifted(Mode::Main, n, done)
 }

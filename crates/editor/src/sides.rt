@@ -70,35 +70,36 @@ pub fn delete_side(
         text.new recall.new }
 {
     let d = passage.steps;
-    let lines = passage.lines;
-    let l = n.l;
-    let r = n.r;
-    let mut m = n;
+    let report = went(d, passage.lines);
     match way {
         Direction::Left => {
-            if !join_fits(limit, View::of(text, l - d, r)) {
+            if !join_fits(limit, View::of(text, n.l - d, n.r)) {
                 return Err(Refusal::Line);
             }
-            delete_left(text, l, r, d, recall);
-            m.l = l - d;
-            m.rl = d;
-            m.rr = 0;
+            delete_left(text, n.l, n.r, d, recall);
             Ok(SideDone {
-                report: went(d, lines),
-                sizes: m,
+                report,
+                sizes: Sizes {
+                    l: n.l - d,
+                    r: n.r,
+                    rl: d,
+                    rr: 0,
+                },
             })
         }
         Direction::Right => {
-            if !join_fits(limit, View::of(text, l, r - d)) {
+            if !join_fits(limit, View::of(text, n.l, n.r - d)) {
                 return Err(Refusal::Line);
             }
-            delete_right(text, l, r, d, recall);
-            m.r = r - d;
-            m.rl = 0;
-            m.rr = d;
+            delete_right(text, n.l, n.r, d, recall);
             Ok(SideDone {
-                report: went(d, lines),
-                sizes: m,
+                report,
+                sizes: Sizes {
+                    l: n.l,
+                    r: n.r - d,
+                    rl: 0,
+                    rr: d,
+                },
             })
         }
     }
@@ -158,24 +159,21 @@ pub fn recall_side(
     requires { OnSide limit n text.old recall.now }
     ensures { EditsSide limit (side_reply n result) n recalled text.old recall.now text.new recall.now }
 {
-    let l = n.l;
-    let r = n.r;
-    let rl = n.rl;
-    let rr = n.rr;
-    if text.len() - (l + r) < rl + rr {
+    if text.len() - (n.l + n.r) < n.rl + n.rr {
         return Err(Refusal::Full);
     }
-    let pair = View::of_pair(recall, rl, rr);
-    if !pair_fits(limit, View::of(text, l, r), pair) {
+    let pair = View::of_pair(recall, n.rl, n.rr);
+    if !pair_fits(limit, View::of(text, n.l, n.r), pair) {
         return Err(Refusal::Line);
     }
-    place_pair(text, l, r, pair);
-    let mut m = n;
-    m.l = l + rl;
-    m.r = r + rr;
+    place_pair(text, n.l, n.r, pair);
     Ok(SideDone {
         report: QUIET,
-        sizes: m,
+        sizes: Sizes {
+            l: n.l + n.rl,
+            r: n.r + n.rr,
+            ..n
+        },
     })
 }
 

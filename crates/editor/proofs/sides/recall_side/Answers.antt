@@ -5,8 +5,8 @@ use Rattle.editor.proofs.Laws.Splices.{halves-fit}
 use Rattle.editor.proofs.Laws.SideEdits.{recall-refused, recall-long, recall-done}
 use Rattle.editor.proofs.sides.recall_side.Goals as goal
 
-pub returns-then-text-l : goal.returns-then-text-l
-returns-then-text-l c = recall-refused c.requires refl c.if-text-l.true
+pub returns-then-text-n : goal.returns-then-text-n
+returns-then-text-n c = recall-refused c.requires refl c.if-text-n.true
 
 pub of-requires : goal.of-requires
 of-requires c = c.requires.gap.fits
@@ -20,7 +20,7 @@ pair_fits-requires c =
       lengths = omega (
         arith,
         c.requires.gap.fits,
-        c.if-text-l.false,
+        c.if-text-n.false,
         c.of.ensures.lengths,
         c.of_pair-pair.ensures.lengths,
       );
@@ -29,12 +29,12 @@ pair_fits-requires c =
 
 pub returns-then-not-pair_fits : goal.returns-then-not-pair_fits
 returns-then-not-pair_fits c =
-    recall-long c.requires refl c.if-text-l.false (sym (rw (c.of.ensures.holds, c.of_pair-pair.ensures.holds) at c.pair_fits.ensures) ∙ c.if-not-pair_fits.true)
+    recall-long c.requires refl c.if-text-n.false (sym (rw (c.of.ensures.holds, c.of_pair-pair.ensures.holds) at c.pair_fits.ensures) ∙ c.if-not-pair_fits.true)
 
 pub place_pair-requires : goal.place_pair-requires
-place_pair-requires c = record { gap = c.requires.gap; in_bounds = omega (arith, c.requires.gap.fits, c.if-text-l.false, c.of_pair-pair.ensures.lengths) }
+place_pair-requires c = record { gap = c.requires.gap; in_bounds = omega (arith, c.requires.gap.fits, c.if-text-n.false, c.of_pair-pair.ensures.lengths) }
 
 pub returns : goal.returns
 returns c =
-    recall-done c.requires refl refl c.if-text-l.false (sym (rw (c.of.ensures.holds, c.of_pair-pair.ensures.holds) at c.pair_fits.ensures) ∙ c.if-not-pair_fits.false)
+    recall-done c.requires refl refl c.if-text-n.false (sym (rw (c.of.ensures.holds, c.of_pair-pair.ensures.holds) at c.pair_fits.ensures) ∙ c.if-not-pair_fits.false)
     (rw c.of_pair-pair.ensures.holds at c.place_pair.ensures)
