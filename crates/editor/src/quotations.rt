@@ -14,7 +14,8 @@ use gap::runs::{clear, vacate};
 use gap::texts::hand_over;
 use gap::views::View;
 
-// The quotation's text and its recall text are lent as they stand. No line can be longer than the quarter, so that this is no limit of lines.
+// The quotation's text and its recall text are lent as they stand. No line can be longer than the quarter, so that this limits none.
+#[tactic(auto, unfolding(crate::specs::Rules::Bytes::quarter))]
 pub fn edit_quotation(e: Edit, n: Sizes, side: &mut [u8]) -> Result<SideDone, Refusal>
     requires side_len { length side.old ≡ 4 * quarter }
     requires on_side { OnSide quarter n (quarter_of quarter 0 side.old) (quarter_of quarter 1 side.old) }
@@ -36,6 +37,7 @@ fn other_mode(mode: Mode) -> Mode
 }
 
 // QUOTE: the other mode, with an empty quotation.
+#[tactic(auto, unfolding(crate::specs::Rules::Bytes::quarter))]
 pub fn quote_key(n: Lengths, side: &mut [u8]) -> EditorDone
     requires { length side.old ≡ 4 * quarter }
     ensures { EditsQuotation (editor_done result) n (λ T p. bounded T quarter (quoted p)) side.old side.new }
@@ -48,6 +50,7 @@ pub fn quote_key(n: Lengths, side: &mut [u8]) -> EditorDone
 }
 
 // The quotation's text goes over to the quarter at `at` as a pair, and both of its own quarters become free.
+#[tactic(auto, unfolding(crate::specs::Rules::Bytes::quarter))]
 fn give_quotation(l: usize, r: usize, at: usize, side: &mut [u8])
     requires side_len { (length side.old ≡ 4 * quarter) × (l + r ≤ quarter) }
     requires quarter_bound { (2 * quarter ≤ at) × (at + quarter ≤ 4 * quarter) }

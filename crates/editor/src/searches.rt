@@ -38,6 +38,7 @@ fn search(way: Direction, n: Lengths, text: &mut [u8], side: &[u8]) -> EditorDon
 }
 
 // FIND and UPFIND: in QUOTED the quotation becomes the pattern first.
+#[tactic(auto, unfolding(crate::specs::Rules::Bytes::quarter))]
 pub fn find_key(way: Direction, n: Lengths, text: &mut [u8], side: &mut [u8]) -> EditorDone
     requires { Searchable n text.old side.old }
     ensures { EditsTexts (editor_done result) n (λ T p. bounded T quarter (found way p)) text.old side.old text.new side.new }
@@ -79,6 +80,7 @@ fn substitute(here: bool, n: Lengths, text: &mut [u8], recall: &mut [u8], side: 
 }
 
 // Where the pattern stands, the text with the replacement in its place fits: the pattern's room is given back first.
+#[tactic(auto, unfolding(crate::specs::Rules::Bytes::quarter))]
 fn exchange_fits(here: bool, size: usize, n: Lengths) -> bool
     requires r_bound { n.main.l + n.main.r ≤ size }
     requires pl_le_r { here ≡ true → n.pl ≤ n.main.r }

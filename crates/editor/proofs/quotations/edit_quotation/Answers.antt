@@ -8,14 +8,6 @@ use Rattle.editor.specs.Wording.Promise.{editing}
 use Rattle.editor.proofs.Laws.Quotation.{quotation-edited}
 use Rattle.editor.proofs.quotations.edit_quotation.Goals as goal
 
-pub split_at_mut-text-requires : goal.split_at_mut-text-requires
-unfolding quarter
-split_at_mut-text-requires c = omega (arith, c.requires.side_len)
-
-pub slice_bounds-on_side-end : goal.slice_bounds-on_side-end
-unfolding quarter
-slice_bounds-on_side-end c = omega (arith, c.requires.side_len, c.split_at_mut-text.ensures.back_len)
-
 pub slice_bounds-on_side-end-2 : goal.slice_bounds-on_side-end-2
 unfolding quarter
 slice_bounds-on_side-end-2 c = simp length-take (omega (arith, c.requires.side_len, c.split_at_mut-text.ensures.back_len))

@@ -6,10 +6,6 @@ use Rattle.editor.specs.Wording.Promise.{cleared}
 use Rattle.editor.proofs.Laws.Replies.{quote-done}
 use Rattle.editor.proofs.quotations.quote_key.Goals as goal
 
-pub vacate-requires : goal.vacate-requires
-unfolding quarter
-vacate-requires c = omega (arith, c.requires)
-
 pub returns : goal.returns
 unfolding quarter
 returns c =
