@@ -21,6 +21,7 @@ use gap::texts::{drop_right, place_pair};
 use gap::views::View;
 
 // A search with the stored pattern: to the nearest match, or the bell.
+#[tactic(auto, unfolding(crate::specs::Rules::Bytes::quarter))]
 fn search(way: Direction, n: Lengths, text: &mut [u8], side: &[u8]) -> EditorDone
     requires { Searchable n text.old side.now }
     ensures { EditsTexts (editor_done result) n (λ T p. done (searched way p)) text.old side.now text.new side.now }
@@ -94,6 +95,7 @@ fn exchange_fits(here: bool, size: usize, n: Lengths) -> bool
 }
 
 // What REPLACE puts in: in MAIN the replacement, in QUOTED the quotation, which becomes the replacement.
+#[tactic(auto, unfolding(crate::specs::Rules::Bytes::quarter))]
 fn replacing<'a>(n: Lengths, side: &'a [u8]) -> View<'a>
     requires side_len { length side.now ≡ 4 * quarter }
     requires fits { (n.xl + n.xr ≤ quarter) × (n.quoted.l + n.quoted.r ≤ quarter) }

@@ -1,6 +1,6 @@
 -- `give_quotation` gives the quotation to the other quarter as a pair, and clears its own two.
 use native.Mathlib.Omega.{arith}
-use lib.ListN.{length-take, length-drop}
+use lib.ListN.{length-take}
 use Rattle.editor.specs.Rules.Bytes.{quarter}
 use Rattle.editor.proofs.Laws.HandedOver.{quotation-given}
 use Rattle.editor.proofs.quotations.give_quotation.Goals as goal

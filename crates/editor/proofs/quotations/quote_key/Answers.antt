@@ -1,6 +1,5 @@
 -- `quote_key`: with both of its quarters free there is an empty quotation.
 use mathlib.Core.Path.{refl, ap, ◌∙◌}
-use native.Mathlib.Omega.{arith}
 use Rattle.editor.specs.Rules.Bytes.{quarter}
 use Rattle.editor.specs.Wording.Promise.{cleared}
 use Rattle.editor.proofs.Laws.Replies.{quote-done}

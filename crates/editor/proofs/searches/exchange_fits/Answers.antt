@@ -1,7 +1,6 @@
 -- `exchange_fits`: past the test for the pattern no difference can wrap, and what is left is one comparison.
 use Prim.Native.Nat.{◌+◌, ◌-◌}
 use native.Mathlib.Omega.{arith}
-use Rattle.editor.specs.Rules.Bytes.{quarter}
 use Rattle.editor.proofs.Laws.ReplaceRoom.{same_test}
 use Rattle.editor.proofs.searches.exchange_fits.Goals as goal
 

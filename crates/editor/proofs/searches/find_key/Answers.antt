@@ -1,6 +1,5 @@
 -- `find_key` is a search, in QUOTED once the quotation was handed over as the pattern.
 use mathlib.Core.Path.{◌∙◌}
-use native.Mathlib.Omega.{arith}
 use Rattle.editor.specs.Rules.Bytes.{quarter}
 use Rattle.editor.proofs.Laws.Fitting.{taken-searchable}
 use Rattle.editor.proofs.Laws.HandedOver.{pattern-holds, find-done}

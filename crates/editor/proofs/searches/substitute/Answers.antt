@@ -77,9 +77,6 @@ overflow_add-done-2 c =
       fitting quarter _ _ c.requires.1,
     )
 
-pub shape_of-text : goal.shape_of-text
-shape_of-text c = omega (arith, c.place_pair.auto.s, c.drop_right.auto.s)
-
 pub returns : goal.returns
 unfolding quarter plain_of
 returns c =

@@ -8,12 +8,6 @@ use Rattle.editor.proofs.sides.recall_side.Goals as goal
 pub returns-then-text-n : goal.returns-then-text-n
 returns-then-text-n c = recall-refused c.requires refl c.if-text-n.true
 
-pub of-requires : goal.of-requires
-of-requires c = c.requires.gap.fits
-
-pub of_pair-pair-requires : goal.of_pair-pair-requires
-of_pair-pair-requires c = c.requires.pair.fits
-
 pub pair_fits-requires : goal.pair_fits-requires
 pair_fits-requires c =
     record {
@@ -30,9 +24,6 @@ pair_fits-requires c =
 pub returns-then-not-pair_fits : goal.returns-then-not-pair_fits
 returns-then-not-pair_fits c =
     recall-long c.requires refl c.if-text-n.false (sym (rw (c.of.ensures.holds, c.of_pair-pair.ensures.holds) at c.pair_fits.ensures) ∙ c.if-not-pair_fits.true)
-
-pub place_pair-requires : goal.place_pair-requires
-place_pair-requires c = record { gap = c.requires.gap; in_bounds = omega (arith, c.requires.gap.fits, c.if-text-n.false, c.of_pair-pair.ensures.lengths) }
 
 pub returns : goal.returns
 returns c =
