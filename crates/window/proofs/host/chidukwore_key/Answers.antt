@@ -16,11 +16,25 @@ returns-then-mode-gt1 c =
 
 pub returns-in-Ok : goal.returns-in-Ok
 returns-in-Ok c =
-    keyed-given _ _ c.in_numbers.ensures c.args.n _ _ _ _ _
-    c.if-mode-gt1.false c.from.ensures c.key_from-k.ensures c.in-Ok.ensures
+    let same = c.in-Ok.ensures.same in
+    rw (
+      c.text-2-1.given.1.1 (sym same.text),
+      c.recall-2-1.given.1.1 (sym same.recall),
+      c.held-2-1.given.1.1 (sym same.held),
+      c.side-2-1.given.1.1 (sym same.side),
+    )
+    (keyed-given _ _ c.in_numbers.ensures c.args.n _ _ _ _ _
+    c.if-mode-gt1.false c.from.ensures c.key_from-k.ensures c.in-Ok.ensures.answers)
 
 pub returns-in-Err : goal.returns-in-Err
 returns-in-Err c =
     let back = refused-numbers c.args.n _ c.if-mode-gt1.false c.from.ensures c.refused-in-Err.ensures in
-    keyed-given _ _ back c.args.n _ _ _ _ _
-    c.if-mode-gt1.false c.from.ensures c.key_from-k.ensures c.in-Err.ensures
+    let same = c.in-Err.ensures.same in
+    rw (
+      c.text-2-1.given.1.1 (sym same.text),
+      c.recall-2-1.given.1.1 (sym same.recall),
+      c.held-2-1.given.1.1 (sym same.held),
+      c.side-2-1.given.1.1 (sym same.side),
+    )
+    (keyed-given _ _ back c.args.n _ _ _ _ _
+    c.if-mode-gt1.false c.from.ensures c.key_from-k.ensures c.in-Err.ensures.answers)
