@@ -1,5 +1,4 @@
 -- How the contracts of this layer's functions speak. No rule stands here.
 pub mod Entries
 pub mod Rows
-pub mod Stores
 pub mod Turns

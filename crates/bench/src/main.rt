@@ -4,17 +4,16 @@
 mod print;
 mod run;
 mod script;
-mod stores;
 mod table;
 
 ghost use Rattle.std.specs.Prelude.{◌+◌, ◌≤◌, ◌<◌, length, take, IfOk};
 ghost use Rattle.std.specs.Io.KnownBytes.{Consumes, IsAtEnd};
-ghost use Rattle.bench.specs.Wording.Stores.{lent_as};
+ghost use Rattle.window.specs.Wording.Calls.{lent_as};
 ghost use Rattle.bench.specs.Wording.Turns.{AsAsked};
 
 use crate::print::put_script;
 use crate::run::{begin, next_turn, opening, screen_size};
-use crate::stores::Stores;
+use editor::stores::Stores;
 use editor::{Key, QUARTER};
 use std::io;
 use std::io::Read;
@@ -91,17 +90,18 @@ fn play(
     rt: &impl Print,
     h: Header,
     input: &[u8],
-    stores: &mut Stores,
+    lent: &mut Stores,
+    screen: &mut [u8],
     out: &mut [u8],
 ) -> io::Result<()>
     requires length_in_bounds { h.at + h.length < length input.now }
-    requires as_asked { AsAsked h (lent_as stores.old) }
+    requires as_asked { AsAsked h (lent_as lent.old screen.old) }
     requires in_bounds { 17408 ≤ length out.old }
 {
-    let mut turn = opening(h, input, stores, out);
+    let mut turn = opening(h, input, lent, screen, out);
     write_front(rt, out, turn.printed)?;
     while let Some(next) = turn.next {
-        turn = next_turn(next, input, stores, out);
+        turn = next_turn(next, input, lent, screen, out);
         write_front(rt, out, turn.printed)?;
     }
     Ok(())
@@ -120,14 +120,13 @@ fn lend(rt: &impl Print, h: Header, input: &[u8]) -> io::Result<()>
     let mut out = [0u8; 17408];
     let store = h.store;
     let area = screen_size(h.rows, h.columns);
-    let mut stores = Stores {
+    let mut lent = Stores {
         text: &mut text[..store],
         recall: &mut recall[..store],
         held: &mut held[..store],
         side: &mut side,
-        screen: &mut screen[..area],
     };
-    play(rt, h, input, &mut stores, &mut out)
+    play(rt, h, input, &mut lent, &mut screen[..area], &mut out)
 }
 
 // A script that cannot be read from its beginning prints one line.

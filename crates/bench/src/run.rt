@@ -2,18 +2,19 @@
 ghost use Rattle.std.specs.Prelude.{◌≡◌, ◌+◌, ◌≤◌, ◌<◌, length, take, Ok};
 ghost use Rattle.gap.specs.Rules.Sequence.{part, patch};
 ghost use Rattle.gap.specs.Wording.Written.{Wrote};
+ghost use Rattle.editor.specs.Wording.Stores.{SameStores};
+ghost use Rattle.window.specs.Wording.Calls.{lent_as};
 ghost use Rattle.bench.specs.Rules.Run.{unless_large, beginning, screen_size, opening_turn, pressed_turn, next_turn};
-ghost use Rattle.bench.specs.Wording.Stores.{lent_as, SameLent};
 ghost use Rattle.bench.specs.Wording.Turns.{state_from, Does, Onward};
 
 use crate::print::{put_accepted, put_refused, put_script};
 use crate::script::{heading_of, reading_at};
-use crate::stores::Stores;
 use crate::{Broken, Header, Next, Reading, Turn};
 use editor::Key;
+use editor::stores::Stores;
 use gap::fields::line_number;
 use window::Session;
-use window::calls::rows_and_columns;
+use window::calls::{open, press, rows_and_columns};
 
 // The most bytes that a script may have, and the largest store that it may ask for.
 const LONGEST_INPUT: usize = 8192;
@@ -61,16 +62,21 @@ fn lay_out(input: &[u8], at: usize, n: usize, text: &mut [u8])
 
 // The text is laid out and opened. A refused opening is the last turn.
 #[tactic(auto, unfolding(crate::specs::Rules::Run::opening_turn, crate::specs::Rules::Print::block))]
-pub fn opening(h: Header, input: &[u8], stores: &mut Stores, out: &mut [u8]) -> Turn
+pub fn opening(
+    h: Header,
+    input: &[u8],
+    lent: &mut Stores,
+    screen: &mut [u8],
+    out: &mut [u8],
+) -> Turn
     requires length_in_bounds { h.at + h.length < length input.now }
     requires in_bounds { 17408 ≤ length out.old }
-    ensures does { Does (opening_turn h input.now (lent_as stores.old)) result (lent_as stores.new) out.old out.new }
-    ensures same { SameLent stores.old stores.new }
+    ensures does { Does (opening_turn h input.now (lent_as lent.old screen.old)) result (lent_as lent.new screen.new) out.old out.new }
+    ensures same { SameStores lent.old lent.new }
 {
-    lay_out(input, h.at, h.length, &mut *stores.text);
-    match stores.open(h) {
+    lay_out(input, h.at, h.length, &mut *lent.text);
+    match open(h.length, h.rows, h.columns, lent, screen) {
         Ok(accepted) => {
-            let screen = &mut *stores.screen;
             let next = Next {
                 at: h.at + h.length + 1,
                 session: accepted.session,
@@ -89,15 +95,21 @@ pub fn opening(h: Header, input: &[u8], stores: &mut Stores, out: &mut [u8]) -> 
 
 // A key is pressed; refused or not, the program goes on behind its line.
 #[tactic(auto, unfolding(crate::specs::Rules::Run::pressed_turn, crate::specs::Rules::Print::block))]
-fn press_turn(session: Session, key: Key, at: usize, stores: &mut Stores, out: &mut [u8]) -> Turn
+fn press_turn(
+    session: Session,
+    key: Key,
+    at: usize,
+    lent: &mut Stores,
+    screen: &mut [u8],
+    out: &mut [u8],
+) -> Turn
     requires { 17408 ≤ length out.old }
-    ensures does { Does (pressed_turn session key at (lent_as stores.old)) result (lent_as stores.new) out.old out.new }
+    ensures does { Does (pressed_turn session key at (lent_as lent.old screen.old)) result (lent_as lent.new screen.new) out.old out.new }
     ensures onward { (then : Next) × (result.next ≡ Some then) × (then.at ≡ at) }
-    ensures same { SameLent stores.old stores.new }
+    ensures same { SameStores lent.old lent.new }
 {
-    match stores.press(session, key) {
+    match press(session, key, lent, screen) {
         Ok(accepted) => {
-            let screen = &mut *stores.screen;
             let next = Next {
                 at,
                 session: accepted.session,
@@ -116,16 +128,22 @@ fn press_turn(session: Session, key: Key, at: usize, stores: &mut Stores, out: &
 
 // The turn for the line that comes next.
 #[tactic(auto, unfolding(crate::specs::Rules::Run::next_turn))]
-pub fn next_turn(from: Next, input: &[u8], stores: &mut Stores, out: &mut [u8]) -> Turn
+pub fn next_turn(
+    from: Next,
+    input: &[u8],
+    lent: &mut Stores,
+    screen: &mut [u8],
+    out: &mut [u8],
+) -> Turn
     requires at_in_bounds { from.at ≤ length input.now }
     requires in_bounds { 17408 ≤ length out.old }
-    ensures does { Does (next_turn input.now (state_from from (lent_as stores.old))) result
-        (lent_as stores.new) out.old out.new }
+    ensures does { Does (next_turn input.now (state_from from (lent_as lent.old screen.old))) result
+        (lent_as lent.new screen.new) out.old out.new }
     ensures onward { Onward from (length input.now) result }
-    ensures same { SameLent stores.old stores.new }
+    ensures same { SameStores lent.old lent.new }
 {
     match reading_at(input, from.at) {
-        Reading::Pressed(key, at) => press_turn(from.session, key, at, stores, out),
+        Reading::Pressed(key, at) => press_turn(from.session, key, at, lent, screen, out),
         Reading::Finished => Turn {
             printed: 0,
             next: None,

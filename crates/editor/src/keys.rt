@@ -2,7 +2,8 @@
 ghost use Rattle.std.specs.Prelude.{◌≡◌, false};
 ghost use Rattle.editor.specs.Rules.Keys.{sound_function, is_main, sound_key, on_side, acted, bounded, key};
 ghost use Rattle.editor.specs.Rules.Bytes.{quarter};
-ghost use Rattle.editor.specs.Wording.Promise.{editing, Sound, stores, Edits, SoundUnheld, EditsUnheld, editor_reply};
+ghost use Rattle.editor.specs.Wording.Promise.{editing, Sound, Edits, SoundUnheld, EditsUnheld, editor_reply};
+ghost use Rattle.editor.specs.Wording.Stores.{stores_as, SameStores};
 
 use crate::marks::{cut_key, followed, mark_key, paste_key};
 use crate::quotations::{edit_quotation, quote_key};
@@ -10,6 +11,7 @@ use crate::records::lifted;
 use crate::refusals::Refusal;
 use crate::searches::{find_key, replace_key};
 use crate::sides::on_side;
+use crate::stores::Stores;
 use crate::{Action, Edit, EditorDone, Key, LONGEST_LINE, Lengths, Mode, Place};
 use gap::Direction;
 use gap::runs::{copy_at, copy_front, hold, vacate};
@@ -95,19 +97,16 @@ fn edit_key(
 }
 
 // A sound key on a session, but for the mark. Which step a key takes is said here once; a table of closures would have to lend all stores to each.
-fn act(
-    n: Lengths,
-    k: Key,
-    text: &mut [u8],
-    recall: &mut [u8],
-    held: &mut [u8],
-    side: &mut [u8],
-) -> Result<EditorDone, Refusal>
-    requires { Sound quarter n (stores text.old recall.old held.old side.old) }
-    ensures { Edits (editor_reply n result) n (λ T p. bounded T quarter (acted k p))
-        (stores text.old recall.old held.old side.old)
-        (stores text.new recall.new held.new side.new) }
+fn act(n: Lengths, k: Key, lent: &mut Stores) -> Result<EditorDone, Refusal>
+    requires { Sound quarter n (stores_as lent.old) }
+    ensures edits { Edits (editor_reply n result) n (λ T p. bounded T quarter (acted k p)) (stores_as lent.old) (stores_as lent.new) }
+    ensures same { SameStores lent.old lent.new }
 {
+    // Store by store: one pattern over all four is not covered by the check.
+    let text = &mut *lent.text;
+    let recall = &mut *lent.recall;
+    let held = &mut *lent.held;
+    let side = &mut *lent.side;
     match k {
         Key::Insert(b) => edit_key(Edit::Insert(b), n, text, recall, side),
         Key::Function(action, way, place) => edit_key(
@@ -130,22 +129,14 @@ fn act(
 }
 
 // A key on a session: KEY, or what the plain editor says.
-pub fn press_session(
-    n: Lengths,
-    k: Key,
-    text: &mut [u8],
-    recall: &mut [u8],
-    held: &mut [u8],
-    side: &mut [u8],
-) -> Result<EditorDone, Refusal>
-    requires { Sound quarter n (stores text.old recall.old held.old side.old) }
-    ensures { Edits (editor_reply n result) n (λ T p. key T quarter k p)
-        (stores text.old recall.old held.old side.old)
-        (stores text.new recall.new held.new side.new) }
+pub fn press_session(n: Lengths, k: Key, lent: &mut Stores) -> Result<EditorDone, Refusal>
+    requires { Sound quarter n (stores_as lent.old) }
+    ensures edits { Edits (editor_reply n result) n (λ T p. key T quarter k p) (stores_as lent.old) (stores_as lent.new) }
+    ensures same { SameStores lent.old lent.new }
 {
     if !sound_key(n.mode, k) {
         return Err(Refusal::Key);
     }
-    let done = act(n, k, text, recall, held, side)?;
+    let done = act(n, k, lent)?;
     Ok(followed(k, n, done))
 }

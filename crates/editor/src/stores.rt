@@ -4,6 +4,7 @@ ghost use Rattle.std.specs.Prelude.{◌≡◌, true, ◌+◌, ◌*◌, ◌^◌, 
 ghost use Rattle.editor.specs.Rules.Marks.{mark_within};
 ghost use Rattle.editor.specs.Rules.Bytes.{quarter, sized, one_half, unquoted, editor_ok};
 ghost use Rattle.editor.specs.Wording.Promise.{stores, Opens};
+ghost use Rattle.editor.specs.Wording.Stores.{stores_as, SameStores};
 
 use crate::records::{holding_sizes, opening_lengths};
 use crate::{LONGEST_LINE, Lengths, Mode, Sizes};
@@ -11,6 +12,15 @@ use gap::line_limits::sound_document;
 use gap::runs::clear;
 use gap::sound::{sound_gap, sound_pair};
 use gap::texts::open_text;
+
+// The four stores, lent together to what works on all of them. A function that does not touch one of them is lent the others one by one.
+#[derive(Drop)]
+pub struct Stores<'a> {
+    pub text: &'a mut [u8],
+    pub recall: &'a mut [u8],
+    pub held: &'a mut [u8],
+    pub side: &'a mut [u8],
+}
 
 // The stores have the lengths that the table asks for.
 pub fn sized_stores(q: usize, text: &[u8], recall: &[u8], held: &[u8], side: &[u8]) -> bool
@@ -69,21 +79,15 @@ pub fn editor_ok(q: usize, n: Lengths, text: &[u8], recall: &[u8], held: &[u8], 
 }
 
 // The first n bytes of the text store become the document, with the cursor at its beginning; everything else is emptied.
-pub fn open_stores(
-    n: usize,
-    text: &mut [u8],
-    recall: &mut [u8],
-    held: &mut [u8],
-    side: &mut [u8],
-) -> Lengths
-    requires side_value { sized quarter (stores text.old recall.old held.old side.old) ≡ true }
-    requires n_in_bounds { n ≤ length text.old }
-    ensures { Opens result n (stores text.old recall.old held.old side.old)
-        (stores text.new recall.new held.new side.new) }
+pub fn open_stores(n: usize, lent: &mut Stores) -> Lengths
+    requires side_value { sized quarter (stores_as lent.old) ≡ true }
+    requires n_in_bounds { n ≤ length lent.old.text.now }
+    ensures opens { Opens result n (stores_as lent.old) (stores_as lent.new) }
+    ensures same { SameStores lent.old lent.new }
 {
-    open_text(text, n);
-    clear(recall);
-    clear(held);
-    clear(side);
+    open_text(&mut *lent.text, n);
+    clear(&mut *lent.recall);
+    clear(&mut *lent.held);
+    clear(&mut *lent.side);
     opening_lengths(n)
 }

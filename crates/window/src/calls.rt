@@ -2,9 +2,10 @@
 ghost use Rattle.std.specs.Prelude.{◌≡◌, true, ◌*◌, ◌≤◌, length};
 ghost use Rattle.editor.specs.Rules.Bytes.{quarter, sized};
 ghost use Rattle.editor.specs.Wording.Promise.{stores, editor_done};
+ghost use Rattle.editor.specs.Wording.Stores.{stores_as, SameStores};
 ghost use Rattle.window.specs.Rules.Core.{rows_and_columns, tabled, opened_text};
 ghost use Rattle.window.specs.Wording.Promise.{OpenPromise, KeyPromise};
-ghost use Rattle.window.specs.Wording.Calls.{newlines_left, session_test, Texts, lent, called, accepted_reply, open_reply, key_reply, Shows};
+ghost use Rattle.window.specs.Wording.Calls.{newlines_left, session_test, Texts, lent_as, called, accepted_reply, Openable, open_reply, key_reply, Shows};
 
 use crate::cursor::{cursor, follow, is_visible, newlines_left, newlines_now};
 use crate::painter::refresh;
@@ -12,7 +13,7 @@ use crate::{Accepted, Frame, Session, Unopened};
 use editor::keys::press_session;
 use editor::records::QUIET;
 use editor::refusals::Refusal;
-use editor::stores::{editor_ok, open_stores, sized_stores};
+use editor::stores::{Stores, editor_ok, open_stores, sized_stores};
 use editor::{EditorDone, Key, LONGEST_LINE, QUARTER};
 use gap::line_limits::long_line;
 use gap::sound::bad_byte;
@@ -27,21 +28,19 @@ pub fn rows_and_columns(h: usize, w: usize) -> bool
 }
 
 // All lengths are as tabled. H and W are known to be small before they are multiplied.
-pub fn tabled_stores(
-    h: usize,
-    w: usize,
-    text: &[u8],
-    recall: &[u8],
-    held: &[u8],
-    side: &[u8],
-    screen: &[u8],
-) -> bool
-    ensures { result ≡ tabled h w (lent text.now recall.now held.now side.now screen.now) }
+pub fn tabled_stores(h: usize, w: usize, lent: &Stores, screen: &[u8]) -> bool
+    ensures { result ≡ tabled h w (lent_as lent.now screen.now) }
 {
     if !rows_and_columns(h, w) {
         return false;
     }
-    sized_stores(QUARTER, text, recall, held, side) & (screen.len() == h * w)
+    sized_stores(
+        QUARTER,
+        &*lent.text,
+        &*lent.recall,
+        &*lent.held,
+        &*lent.side,
+    ) & (screen.len() == h * w)
 }
 
 // Whether record and stores are a session in quarters of q bytes. The newlines counted on the way are handed on.
@@ -66,26 +65,36 @@ pub fn session_test(
     Some(above)
 }
 
+// The same of stores that are lent together, in quarters as they are now.
+#[tactic(auto, unfolding(editor::specs::Rules::Bytes::quarter))]
+fn lent_test(s: Session, lent: &Stores) -> Option<usize>
+    requires { sized quarter (stores_as lent.now) ≡ true }
+    ensures { result ≡ session_test quarter s (stores_as lent.now) }
+{
+    session_test(
+        QUARTER,
+        s,
+        &*lent.text,
+        &*lent.recall,
+        &*lent.held,
+        &*lent.side,
+    )
+}
+
 // ---- Opening
 
 // A text that is sound becomes the document; everything else is emptied, and the screen is painted whole.
-fn open_sound(
-    n: usize,
-    h: usize,
-    w: usize,
-    text: &mut [u8],
-    recall: &mut [u8],
-    held: &mut [u8],
-    side: &mut [u8],
-    screen: &mut [u8],
-) -> Accepted
-    requires screen_value { tabled h w (lent text.old recall.old held.old side.old screen.old) ≡ true }
-    requires n_in_bounds { n ≤ length text.old }
-    ensures { called (accepted_reply result) (lent text.new recall.new held.new side.new screen.new)
-        ≡ opened_text n h w (lent text.old recall.old held.old side.old screen.old) }
+fn open_sound(n: usize, h: usize, w: usize, lent: &mut Stores, screen: &mut [u8]) -> Accepted
+    requires screen_value { tabled h w (lent_as lent.old screen.old) ≡ true }
+    requires n_in_bounds { n ≤ length lent.old.text.now }
+    ensures opens { called (accepted_reply result) (lent_as lent.new screen.new) ≡ opened_text n h w (lent_as lent.old screen.old) }
+    ensures same { SameStores lent.old lent.new }
 {
     let frame = Frame { r: 0, c: 0, h, w };
-    let lengths = open_stores(n, text, recall, held, side);
+    let lengths = open_stores(n, lent);
+    // Both are only read; the check covers two loans through one `&mut` where each is a `&mut`.
+    let text = &mut *lent.text;
+    let side = &mut *lent.side;
     refresh(lengths, frame, text, side, screen);
     Accepted {
         report: QUIET,
@@ -97,23 +106,14 @@ fn open_sound(
     }
 }
 
-// The opening call: SIZE, LONG, TEXT, LINE, or the text opened. n is the stated length of the text.
-pub fn open(
-    n: usize,
-    h: usize,
-    w: usize,
-    text: &mut [u8],
-    recall: &mut [u8],
-    held: &mut [u8],
-    side: &mut [u8],
-    screen: &mut [u8],
-) -> Result<Accepted, Unopened>
-    ensures { OpenPromise n h w (lent text.old recall.old held.old side.old screen.old)
-        (called (open_reply result) (lent text.new recall.new held.new side.new screen.new)) }
+// What refuses an opening: SIZE, LONG, TEXT or LINE, in this order.
+fn openable(n: usize, h: usize, w: usize, lent: &Stores, screen: &[u8]) -> Result<(), Unopened>
+    ensures { Openable result n h w (lent_as lent.now screen.now) }
 {
-    if !tabled_stores(h, w, text, recall, held, side, screen) {
+    if !tabled_stores(h, w, lent, screen) {
         return Err(Unopened::Size);
     }
+    let text = &*lent.text;
     if text.len() < n {
         return Err(Unopened::Long);
     }
@@ -123,7 +123,22 @@ pub fn open(
     if let Some(i) = long_line(LONGEST_LINE, &text[..n]) {
         return Err(Unopened::Line(i));
     }
-    Ok(open_sound(n, h, w, text, recall, held, side, screen))
+    Ok(())
+}
+
+// The opening call: a refusal, or the text opened. n is the stated length of the text.
+pub fn open(
+    n: usize,
+    h: usize,
+    w: usize,
+    lent: &mut Stores,
+    screen: &mut [u8],
+) -> Result<Accepted, Unopened>
+    ensures answers { OpenPromise n h w (lent_as lent.old screen.old) (called (open_reply result) (lent_as lent.new screen.new)) }
+    ensures same { SameStores lent.old lent.new }
+{
+    openable(n, h, w, lent, screen)?;
+    Ok(open_sound(n, h, w, lent, screen))
 }
 
 // ---- A key
@@ -159,27 +174,20 @@ fn show(
 }
 
 // The key call: SIZE, SESSION, KEY, FULL, LINE, or done.
-pub fn press(
-    s: Session,
-    k: Key,
-    text: &mut [u8],
-    recall: &mut [u8],
-    held: &mut [u8],
-    side: &mut [u8],
-    screen: &mut [u8],
-) -> Result<Accepted, Refusal>
-    ensures { KeyPromise s k (lent text.old recall.old held.old side.old screen.old)
-        (called (key_reply s result) (lent text.new recall.new held.new side.new screen.new)) }
+pub fn press(s: Session, k: Key, lent: &mut Stores, screen: &mut [u8]) -> Result<Accepted, Refusal>
+    ensures answers { KeyPromise s k (lent_as lent.old screen.old) (called (key_reply s result) (lent_as lent.new screen.new)) }
+    ensures same { SameStores lent.old lent.new }
 {
-    let h = s.frame.h;
-    let w = s.frame.w;
-    if !tabled_stores(h, w, text, recall, held, side, screen) {
+    if !tabled_stores(s.frame.h, s.frame.w, lent, screen) {
         return Err(Refusal::Size);
     }
-    let Some(above) = session_test(QUARTER, s, text, recall, held, side) else {
+    let Some(above) = lent_test(s, lent) else {
         return Err(Refusal::Session);
     };
-    let done = press_session(s.lengths, k, text, recall, held, side)?;
+    let done = press_session(s.lengths, k, lent)?;
+    // Both are only read, as in `open_sound`.
+    let text = &mut *lent.text;
+    let side = &mut *lent.side;
     let below = newlines_now(k, above, s.lengths.main, done, text);
     Ok(show(s.frame, below, done, text, side, screen))
 }

@@ -14,6 +14,7 @@ use crate::host_keys::key_from;
 use crate::sender::{Update, send};
 use crate::{Accepted, Frame, Sending, Session, Unopened};
 use editor::refusals::Refusal;
+use editor::stores::Stores;
 use editor::{Lengths, Mode, Sizes};
 
 // The session record in document order: lengths of the document left and right of its cursor, of the quotation, of both halves of the
@@ -272,7 +273,13 @@ pub fn chidukwore_open(
         (lent text.old recall.old held.old side.old screen.old)
         (given result (lent text.new recall.new held.new side.new screen.new)) }
 {
-    match open(n, rows, columns, text, recall, held, side, screen) {
+    let mut lent = Stores {
+        text: &mut *text,
+        recall: &mut *recall,
+        held: &mut *held,
+        side: &mut *side,
+    };
+    match open(n, rows, columns, &mut lent, screen) {
         Ok(accepted) => in_numbers(accepted),
         Err(why) => unopened(why),
     }
@@ -298,14 +305,20 @@ pub fn chidukwore_key(
     let mode = n.mode;
     let rows = n.rows;
     let columns = n.columns;
+    let mut lent = Stores {
+        text: &mut *text,
+        recall: &mut *recall,
+        held: &mut *held,
+        side: &mut *side,
+    };
     if 1 < mode {
-        if tabled_stores(rows, columns, text, recall, held, side, screen) {
+        if tabled_stores(rows, columns, &lent, screen) {
             return refused(Refusal::Session, n);
         }
         return refused(Refusal::Size, n);
     }
     let k = key_from(kind, a, b, c);
-    match press(Session::from(n), k, text, recall, held, side, screen) {
+    match press(Session::from(n), k, &mut lent, screen) {
         Ok(accepted) => in_numbers(accepted),
         Err(why) => refused(why, n),
     }

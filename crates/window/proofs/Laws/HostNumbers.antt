@@ -1,5 +1,5 @@
 -- What the host is given, in numbers, is what the core's calls give.
-use Rattle.std.specs.Prelude.{Bool, cond, ℕ}
+use Rattle.std.specs.Prelude.{List, Bool, cond, ℕ}
 use mathlib.Core.Path.{◌≡◌, ap, sym, ◌∙◌}
 use Prim.Native.Nat.{◌≤◌, ◌<◌}
 use borrow.Author.Tests.{le-leb, lt-leb}
@@ -9,8 +9,8 @@ use Rattle.window.specs.Rules.Core.{Reply}
 use Rattle.window.specs.declared.host.Record.{Record}
 use Rattle.window.specs.declared.host.HostReply.{HostReply}
 use Rattle.window.specs.Rules.Core.{Lent, refusal, tabled, opened, keyed}
-use Rattle.window.specs.Wording.Calls.{called, turned_down_reply}
-use Rattle.window.specs.Rules.Host.{session_from, record_from, key_from, said_of, given, numbers_of, given_of, host_opened, host_keyed}
+use Rattle.window.specs.Wording.Calls.{lent, called, turned_down_reply}
+use Rattle.window.specs.Rules.Host.{Given, session_from, record_from, key_from, said_of, given, numbers_of, given_of, host_opened, host_keyed}
 use Rattle.window.proofs.Theorems.OverAndBack.{record-over}
 
 module _ {q : HostReply} (r : Reply) (now : Lent) (same : q ≡ numbers_of r) where
@@ -26,6 +26,13 @@ module _ {q : HostReply} (r : Reply) (now : Lent) (same : q ≡ numbers_of r) wh
   unfolding host_keyed
   keyed-given n kind a b c before mode s k e =
       rw (le-leb _ _ mode, ← s, ← k) (ap (λ q. given q now) same ∙ ap given_of e)
+
+-- What a call leaves in the stores that it was lent is what the host finds in them.
+pub ended :
+    {q : HostReply} {o : Given} {text text_left recall recall_left held held_left side side_left screen : List ℕ} → text ≡ text_left
+    → recall ≡ recall_left → held ≡ held_left → side ≡ side_left
+    → given q (lent text_left recall_left held_left side_left screen) ≡ o → given q (lent text recall held side screen) ≡ o
+ended text recall held side e = rw (text, recall, held, side) e
 
 -- A refused key hands the numbers back as they were.
 pub refused-numbers : {q : HostReply} (n : Record) (code : ℕ) {s : Session} → n.mode ≤ 1 → s ≡ session_from n

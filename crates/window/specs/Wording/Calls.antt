@@ -5,10 +5,12 @@ use Rattle.gap.specs.Rules.Doc.{Doc}
 use Rattle.gap.specs.Rules.Lines.{newlines}
 use Rattle.gap.specs.Rules.Layout.{ungap}
 use Rattle.editor.specs.declared.refusals.Refusal.{Refusal}
+use Rattle.editor.specs.declared.stores.Stores.{Stores as LentStores}
 use Rattle.editor.specs.Rules.Refusals.{number}
 use Rattle.editor.specs.Rules.Plain.{Plain, Did}
 use Rattle.editor.specs.Rules.Bytes.{Stores, EditorReply, quarter, quarter_of, plain_of}
 use Rattle.editor.specs.Wording.Promise.{Sound, stores}
+use Rattle.editor.specs.Wording.Stores.{stores_as}
 use Rattle.window.specs.declared.Spot.{Spot}
 use Rattle.window.specs.declared.Rows.{Rows}
 use Rattle.window.specs.declared.Accepted.{Accepted}
@@ -16,7 +18,7 @@ use Rattle.window.specs.declared.Unopened.{Unopened}
 use Rattle.window.specs.Wording.Unopened.{refusal_in, place_in}
 use Rattle.window.specs.Rules.Window.{virtual_in, row_of, column_of, window, policy_row, policy_column}
 use Rattle.window.specs.Rules.Rows.{first_row, last_row}
-use Rattle.window.specs.Rules.Core.{Lent, Reply, Called, tabled, session_in, refusal, zero_record, shown}
+use Rattle.window.specs.Rules.Core.{Lent, Reply, Called, tabled, session_in, refusal, zero_record, shown, opened_text, opened}
 
 -- ---- Cursor
 
@@ -82,9 +84,12 @@ pub record Refreshed (f : Frame) (d : Doc) (old : List ℕ) (named : Rows) (new 
 
 -- ---- Calls
 
--- The five lent stores as one value, and a reply with them as a call's outcome.
+-- The five lent stores as one value, one by one or the four with the screen, and a reply with them as a call's outcome.
 abbrev pub lent : List ℕ → List ℕ → List ℕ → List ℕ → List ℕ → Lent
 lent text recall held side screen = record { stores = record { text = text; recall = recall; held = held; side = side }; screen = screen }
+
+abbrev pub lent_as : LentStores → List ℕ → Lent
+lent_as s screen = record { stores = stores_as s; screen = screen }
 
 abbrev pub called : Reply → Lent → Called
 called r b = record { answer = r.answer; session = r.session; lent = b }
@@ -107,6 +112,11 @@ accepted_reply a =
 
 abbrev pub unopened_of : Unopened → Reply
 unopened_of why = unopened_reply (number (refusal_in why)) (place_in why)
+
+-- The tests of an opening refuse it as the call does, or the text is opened.
+abbrev pub Openable : Result (Unit {0}) Unopened → ℕ → ℕ → ℕ → Lent → Type 0
+Openable (Ok _) n H W b = (tabled H W b ≡ true) × (n ≤ length b.stores.text) × (opened_text n H W b ≡ opened n H W b)
+Openable (Err why) n H W b = called (unopened_of why) b ≡ opened n H W b
 
 abbrev pub open_reply : Result Accepted Unopened → Reply
 open_reply (Ok a) = accepted_reply a

@@ -18,46 +18,46 @@ cut_key-requires c = record { on_side = on-holding quarter _ _ c.requires; mark_
 pub paste_key-requires : goal.paste_key-requires
 paste_key-requires c = on-holding quarter _ _ c.requires
 
-pub returns-in-Insert : goal.returns-in-Insert
+pub returns-in-Insert-clause-edits : goal.returns-in-Insert-clause-edits
 unfolding acted
-returns-in-Insert c = rw c.in-Insert.is (c.edit_key.ensures _ c.requires)
+returns-in-Insert-clause-edits c = rw c.in-Insert.is (c.edit_key.ensures _ c.requires)
 
-pub returns-in-Function : goal.returns-in-Function
+pub returns-in-Function-clause-edits : goal.returns-in-Function-clause-edits
 unfolding acted
-returns-in-Function c = rw c.in-Function.is (c.edit_key-in-Function.ensures _ c.requires)
+returns-in-Function-clause-edits c = rw c.in-Function.is (c.edit_key-in-Function.ensures _ c.requires)
 
-pub returns-in-Recall : goal.returns-in-Recall
+pub returns-in-Recall-clause-edits : goal.returns-in-Recall-clause-edits
 unfolding acted
-returns-in-Recall c = rw c.in-Recall.is (c.edit_key-in-Recall.ensures _ c.requires)
+returns-in-Recall-clause-edits c = rw c.in-Recall.is (c.edit_key-in-Recall.ensures _ c.requires)
 
-pub returns-in-Quote : goal.returns-in-Quote
+pub returns-in-Quote-clause-edits : goal.returns-in-Quote-clause-edits
 unfolding acted
-returns-in-Quote c = rw c.in-Quote.is (c.quote_key.ensures _ _ _ c.requires)
+returns-in-Quote-clause-edits c = rw c.in-Quote.is (c.quote_key.ensures _ _ _ c.requires)
 
-pub returns-in-Find : goal.returns-in-Find
+pub returns-in-Find-clause-edits : goal.returns-in-Find-clause-edits
 unfolding acted
-returns-in-Find c = rw c.in-Find.is (c.find_key.ensures _ _ c.requires)
+returns-in-Find-clause-edits c = rw c.in-Find.is (c.find_key.ensures _ _ c.requires)
 
-pub returns-in-Replace : goal.returns-in-Replace
+pub returns-in-Replace-clause-edits : goal.returns-in-Replace-clause-edits
 unfolding acted
-returns-in-Replace c = rw c.in-Replace.is (c.replace_key.ensures _ c.requires)
+returns-in-Replace-clause-edits c = rw c.in-Replace.is (c.replace_key.ensures _ c.requires)
 
-pub returns-in-Mark : goal.returns-in-Mark
+pub returns-in-Mark-clause-edits : goal.returns-in-Mark-clause-edits
 unfolding acted
-returns-in-Mark c = rw c.in-Mark.is (c.mark_key.ensures _ c.requires)
+returns-in-Mark-clause-edits c = rw c.in-Mark.is (c.mark_key.ensures _ c.requires)
 
-pub returns-in-Cut : goal.returns-in-Cut
+pub returns-in-Cut-clause-edits : goal.returns-in-Cut-clause-edits
 unfolding acted
-returns-in-Cut c = rw c.in-Cut.is (c.cut_key.ensures _ _ c.requires)
+returns-in-Cut-clause-edits c = rw c.in-Cut.is (c.cut_key.ensures _ _ c.requires)
 
-pub returns-in-Paste : goal.returns-in-Paste
+pub returns-in-Paste-clause-edits : goal.returns-in-Paste-clause-edits
 unfolding acted
-returns-in-Paste c = rw c.in-Paste.is (c.paste_key.ensures _ _ c.requires)
+returns-in-Paste-clause-edits c = rw c.in-Paste.is (c.paste_key.ensures _ _ c.requires)
 
-pub returns-in-Newline : goal.returns-in-Newline
+pub returns-in-Newline-clause-edits : goal.returns-in-Newline-clause-edits
 unfolding acted
-returns-in-Newline c = rw c.in-Newline.is (c.edit_key-in-Newline.ensures _ c.requires)
+returns-in-Newline-clause-edits c = rw c.in-Newline.is (c.edit_key-in-Newline.ensures _ c.requires)
 
-pub returns-in-Tab : goal.returns-in-Tab
+pub returns-in-Tab-clause-edits : goal.returns-in-Tab-clause-edits
 unfolding acted
-returns-in-Tab c = rw c.in-Tab.is (c.edit_key-in-Tab.ensures _ c.requires)
+returns-in-Tab-clause-edits c = rw c.in-Tab.is (c.edit_key-in-Tab.ensures _ c.requires)

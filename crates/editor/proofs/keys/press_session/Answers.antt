@@ -8,22 +8,22 @@ use Rattle.editor.proofs.Laws.Refusals.{numbered}
 use Rattle.editor.proofs.Laws.Following.{refused-same, done-followed, can-follow}
 use Rattle.editor.proofs.keys.press_session.Goals as goal
 
-pub returns-then-not-sound_key : goal.returns-then-not-sound_key
+pub returns-then-not-sound_key-clause-edits : goal.returns-then-not-sound_key-clause-edits
 unfolding key plain_of
-returns-then-not-sound_key c = rw (sym c.sound_key.ensures ∙ c.if-not-sound_key.true)
+returns-then-not-sound_key-clause-edits c = rw (sym c.sound_key.ensures ∙ c.if-not-sound_key.true)
 
-pub returns-in_err-done : goal.returns-in_err-done
-returns-in_err-done c =
+pub returns-in_err-done-clause-edits : goal.returns-in_err-done-clause-edits
+returns-in_err-done-clause-edits c =
     let ok = sym c.sound_key.ensures ∙ c.if-not-sound_key.false in
     let gone = err_from_is_err_and c.from_residual.result c.from_residual.ensures.1 in
-    rw (gone.1, gone.2) (refused-same quarter _ _ c.requires _ ok c.in_err-done.ensures (numbered _))
+    rw (gone.1, gone.2) (refused-same quarter _ _ c.requires _ ok c.in_err-done.ensures.edits (numbered _))
 
 pub followed-requires : goal.followed-requires
 unfolding quarter
 followed-requires c =
-    let ok = sym c.sound_key.ensures ∙ c.if-not-sound_key.false in can-follow quarter _ _ c.requires _ ok c.in_ok-done.ensures refl (omega arith)
+    let ok = sym c.sound_key.ensures ∙ c.if-not-sound_key.false in can-follow quarter _ _ c.requires _ ok c.in_ok-done.ensures.edits refl (omega arith)
 
-pub returns : goal.returns
-returns c =
+pub returns-clause-edits : goal.returns-clause-edits
+returns-clause-edits c =
     let ok = sym c.sound_key.ensures ∙ c.if-not-sound_key.false in
-    rw c.followed.ensures (done-followed quarter _ _ c.requires _ ok c.in_ok-done.ensures refl)
+    rw c.followed.ensures (done-followed quarter _ _ c.requires _ ok c.in_ok-done.ensures.edits refl)

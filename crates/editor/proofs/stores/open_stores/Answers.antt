@@ -2,7 +2,7 @@
 use Rattle.editor.proofs.Laws.Opening.{stores-opened}
 use Rattle.editor.proofs.stores.open_stores.Goals as goal
 
-pub returns : goal.returns
-returns c =
+pub returns-clause-opens : goal.returns-clause-opens
+returns-clause-opens c =
     stores-opened _ _ c.requires.side_value c.requires.n_in_bounds c.opening_lengths.ensures c.open_text.ensures
     c.clear.ensures c.clear-2.ensures c.clear-3.ensures

@@ -1,57 +1,15 @@
--- `calls::open` meets its contract: its tests are the definition's in their order, and the searches for a bad byte and for a longer line need no
--- more than the first n bytes.
-use mathlib.Core.Path.{sym, ◌∙◌, refl}
-use lib.Seq.{length-take-le}
-use Rattle.editor.specs.Rules.LongLines.{longest_line}
-use Rattle.window.specs.Wording.Calls.{lent}
-use Rattle.window.proofs.Laws.OpeningCall.{size-refused, stores-fit, long-refused, text-refused, line_refused, text-accepted}
-use mathlib.Core.Path.{ap}
-use mathlib.Core.Bool.{not}
+-- `calls::open` meets its contract: it is refused by its tests, or the text is opened.
+use Rattle.std.proofs.lemmas.Result.{err_from_is_err_and}
+use mathlib.Core.Path.{◌∙◌}
 use Rattle.window.proofs.calls.open.Goals as goal
 
-pub returns-then-not-tabled_stores : goal.returns-then-not-tabled_stores
-returns-then-not-tabled_stores c =
-    size-refused _ _ _ (lent c.args.text.now c.args.recall.now c.args.held.now c.args.side.now c.args.screen.now) c.tabled_stores.ensures
-    (ap not c.if-not-tabled_stores.true) refl
-
-pub returns-then-text-n : goal.returns-then-text-n
-returns-then-text-n c =
-    long-refused _ _ _ (lent c.args.text.now c.args.recall.now c.args.held.now c.args.side.now c.args.screen.now) c.tabled_stores.ensures
-    (ap not c.if-not-tabled_stores.false) c.if-text-n.true
-    refl
-
-pub slice_bounds-bad_byte-end-2 : goal.slice_bounds-bad_byte-end-2
-slice_bounds-bad_byte-end-2 c = sym (length-take-le _ _ c.if-text-n.false)
-
-pub slice_bounds-long_line-end-2 : goal.slice_bounds-long_line-end-2
-slice_bounds-long_line-end-2 c = sym (length-take-le _ _ c.if-text-n.false)
-
 pub open_sound-requires : goal.open_sound-requires
-open_sound-requires c =
-    record {
-      screen_value = stores-fit _ _ (lent c.args.text.now c.args.recall.now c.args.held.now c.args.side.now c.args.screen.now) c.tabled_stores.ensures
-          (ap not c.if-not-tabled_stores.false);
-      n_in_bounds = c.if-text-n.false;
-    }
+open_sound-requires c = record { screen_value = c.in_ok-openable.ensures.0; n_in_bounds = c.in_ok-openable.ensures.1 }
 
-pub returns-in-Some : goal.returns-in-Some
-returns-in-Some c =
-    text-refused _ _ _ (lent c.args.text.now c.args.recall.now c.args.held.now c.args.side.now c.args.screen.now) c.tabled_stores.ensures
-    (ap not c.if-not-tabled_stores.false) c.if-text-n.false
-    c.bad_byte.ensures _ c.in-Some.is refl
+pub returns-in_err-openable-clause-answers : goal.returns-in_err-openable-clause-answers
+returns-in_err-openable-clause-answers c =
+    let gone = err_from_is_err_and c.from_residual.result c.from_residual.ensures.1 in
+    rw (gone.1, gone.2) c.in_err-openable.ensures
 
-pub returns-in-Some-long_line : goal.returns-in-Some-long_line
-unfolding longest_line
-returns-in-Some-long_line c =
-    line_refused _ _ _ (lent c.args.text.now c.args.recall.now c.args.held.now c.args.side.now c.args.screen.now) c.tabled_stores.ensures
-    (ap not c.if-not-tabled_stores.false) c.if-text-n.false
-    c.bad_byte.ensures c.in_default.is c.long_line.ensures _ c.in-Some-long_line.is
-    refl
-
-pub returns : goal.returns
-unfolding longest_line
-returns c =
-    c.open_sound.ensures
-    ∙ text-accepted _ _ _ (lent c.args.text.now c.args.recall.now c.args.held.now c.args.side.now c.args.screen.now) c.tabled_stores.ensures
-    (ap not c.if-not-tabled_stores.false) c.if-text-n.false
-    c.bad_byte.ensures c.in_default.is c.long_line.ensures c.in_default-long_line.is
+pub returns-clause-answers : goal.returns-clause-answers
+returns-clause-answers c = c.open_sound.ensures.opens ∙ c.in_ok-openable.ensures.2

@@ -8,10 +8,10 @@ open_stores-lengths-requires c = record { side_value = (tabled-facts _ _ _ c.req
 
 pub refresh-requires : goal.refresh-requires
 refresh-requires c =
-    let both = refresh-asked _ _ _ _ c.requires.screen_value c.requires.n_in_bounds c.open_stores-lengths.ensures c.open_stores-lengths.auto.side in
+    let both = refresh-asked _ _ _ _ c.requires.screen_value c.requires.n_in_bounds c.open_stores-lengths.ensures.opens c.open_stores-lengths.ensures.same.side_len in
     record { texts = both.0; canvas = both.1 }
 
-pub returns : goal.returns
-returns c =
-    text-opened _ _ _ _ c.requires.screen_value c.requires.n_in_bounds c.open_stores-lengths.ensures c.open_stores-lengths.auto.side
+pub returns-clause-opens : goal.returns-clause-opens
+returns-clause-opens c =
+    text-opened _ _ _ _ c.requires.screen_value c.requires.n_in_bounds c.open_stores-lengths.ensures.opens c.open_stores-lengths.ensures.same.side_len
     c.refresh.ensures

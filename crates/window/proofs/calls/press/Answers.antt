@@ -4,81 +4,68 @@ use native.Mathlib.Omega.{arith}
 use Rattle.std.proofs.lemmas.Result.{err_from_is_err_and}
 use Rattle.editor.specs.Rules.Bytes.{quarter}
 use Rattle.editor.proofs.Laws.Refusals.{positive}
-use Rattle.window.specs.Wording.Calls.{lent}
+use Rattle.window.specs.Wording.Calls.{lent_as}
 use Rattle.window.proofs.Laws.KeyCall.{texts-held, refused-size, refused-session, press-refused, press-done, session-sound}
 use Rattle.window.proofs.Laws.KeyCall.{tested-session, tested-none, counted-as}
 use Rattle.window.proofs.Laws.Views.{tabled-facts}
 use Rattle.window.proofs.calls.press.Goals as goal
 
-pub returns-then-not-tabled_stores : goal.returns-then-not-tabled_stores
-returns-then-not-tabled_stores c = refused-size _ _ _ (sym c.tabled_stores.ensures ∙ c.if-not-tabled_stores.true) _ refl
+pub returns-then-not-tabled_stores-clause-answers : goal.returns-then-not-tabled_stores-clause-answers
+returns-then-not-tabled_stores-clause-answers c = refused-size _ _ _ (sym c.tabled_stores.ensures ∙ c.if-not-tabled_stores.true) _ refl
 
-pub session_test-requires : goal.session_test-requires
-unfolding quarter
-session_test-requires c = (omega arith, (tabled-facts _ _ _ (sym c.tabled_stores.ensures ∙ c.if-not-tabled_stores.false)).stores)
+pub lent_test-requires : goal.lent_test-requires
+lent_test-requires c = (tabled-facts _ _ _ (sym c.tabled_stores.ensures ∙ c.if-not-tabled_stores.false)).stores
 
-pub returns-in_default : goal.returns-in_default
+pub returns-in_default-clause-answers : goal.returns-in_default-clause-answers
 unfolding quarter
-returns-in_default c =
-    refused-session _ _ _ (sym c.tabled_stores.ensures ∙ c.if-not-tabled_stores.false) (tested-none _ _ c.session_test.ensures c.in_default.is) _
+returns-in_default-clause-answers c =
+    refused-session _ _ _ (sym c.tabled_stores.ensures ∙ c.if-not-tabled_stores.false) (tested-none _ _ c.lent_test.ensures c.in_default.is) _
     refl
 
 pub press_session-requires : goal.press_session-requires
 unfolding quarter
 press_session-requires c =
-    (session-sound c.args.s (lent c.args.text.now c.args.recall.now c.args.held.now c.args.side.now c.args.screen.now)
-    (sym c.tabled_stores.ensures ∙ c.if-not-tabled_stores.false) (tested-session _ _ c.session_test.ensures c.in-Some.is).0)
+    (session-sound c.args.s (lent_as c.args.lent.now c.args.screen.now)
+    (sym c.tabled_stores.ensures ∙ c.if-not-tabled_stores.false) (tested-session _ _ c.lent_test.ensures c.in-Some.is).0)
 
-pub returns-in_err-done : goal.returns-in_err-done
+pub returns-in_err-done-clause-answers : goal.returns-in_err-done-clause-answers
 unfolding quarter
-returns-in_err-done c =
+returns-in_err-done-clause-answers c =
     let gone = err_from_is_err_and c.from_residual.result c.from_residual.ensures.1 in
     rw (gone.1, gone.2)
-    (press-refused c.args.s c.args.k (lent c.args.text.now c.args.recall.now c.args.held.now c.args.side.now c.args.screen.now)
-    (sym c.tabled_stores.ensures ∙ c.if-not-tabled_stores.false) (tested-session _ _ c.session_test.ensures c.in-Some.is).0 _ _
-    c.in_err-done.ensures (positive _) _
+    (press-refused c.args.s c.args.k (lent_as c.args.lent.now c.args.screen.now)
+    (sym c.tabled_stores.ensures ∙ c.if-not-tabled_stores.false) (tested-session _ _ c.lent_test.ensures c.in-Some.is).0 _ _
+    c.in_err-done.ensures.edits (positive _) _
     refl)
 
 pub newlines_now-below-requires : goal.newlines_now-below-requires
 unfolding quarter
 newlines_now-below-requires c =
-    let known = (press-done c.args.s c.args.k (lent c.args.text.now c.args.recall.now c.args.held.now c.args.side.now c.args.screen.now)
-    (sym c.tabled_stores.ensures ∙ c.if-not-tabled_stores.false) (tested-session _ _ c.session_test.ensures c.in-Some.is).0 _ _
-    c.in_ok-done.ensures (omega arith)) in
+    let known = (press-done c.args.s c.args.k (lent_as c.args.lent.now c.args.screen.now)
+    (sym c.tabled_stores.ensures ∙ c.if-not-tabled_stores.false) (tested-session _ _ c.lent_test.ensures c.in-Some.is).0 _ _
+    c.in_ok-done.ensures.edits (omega arith)) in
     let texts = texts-held _ _ _ _ _ known.sound in
     record {
       l_in_bounds = omega (arith, texts.document);
-      left_counted = λ other. counted-as (tested-session _ _ c.session_test.ensures c.in-Some.is).1 (known.left other);
+      left_counted = λ other. counted-as (tested-session _ _ c.lent_test.ensures c.in-Some.is).1 (known.left other);
     }
 
 pub show-requires : goal.show-requires
 unfolding quarter
 show-requires c =
-    let known = (press-done c.args.s c.args.k (lent c.args.text.now c.args.recall.now c.args.held.now c.args.side.now c.args.screen.now)
-    (sym c.tabled_stores.ensures ∙ c.if-not-tabled_stores.false) (tested-session _ _ c.session_test.ensures c.in-Some.is).0 _ _
-    c.in_ok-done.ensures (omega arith)) in
+    let known = (press-done c.args.s c.args.k (lent_as c.args.lent.now c.args.screen.now)
+    (sym c.tabled_stores.ensures ∙ c.if-not-tabled_stores.false) (tested-session _ _ c.lent_test.ensures c.in-Some.is).0 _ _
+    c.in_ok-done.ensures.edits (omega arith)) in
     let facts = tabled-facts _ _ _ known.fit in record {
       texts = texts-held _ _ _ _ _ known.sound;
       above_value = c.newlines_now-below.ensures;
       w_value = (facts.frame, facts.long);
     }
 
-pub shape_of-text : goal.shape_of-text
-shape_of-text c = c.press_session.auto.text
-
-pub shape_of-recall : goal.shape_of-recall
-shape_of-recall c = c.press_session.auto.recall
-
-pub shape_of-held : goal.shape_of-held
-shape_of-held c = c.press_session.auto.held
-
-pub shape_of-side : goal.shape_of-side
-shape_of-side c = c.press_session.auto.side
-
-pub returns : goal.returns
+pub returns-clause-answers : goal.returns-clause-answers
 unfolding quarter
-returns c =
-    let known = (press-done c.args.s c.args.k (lent c.args.text.now c.args.recall.now c.args.held.now c.args.side.now c.args.screen.now)
-    (sym c.tabled_stores.ensures ∙ c.if-not-tabled_stores.false) (tested-session _ _ c.session_test.ensures c.in-Some.is).0 _ _
-    c.in_ok-done.ensures (omega arith)) in
+returns-clause-answers c =
+    let known = (press-done c.args.s c.args.k (lent_as c.args.lent.now c.args.screen.now)
+    (sym c.tabled_stores.ensures ∙ c.if-not-tabled_stores.false) (tested-session _ _ c.lent_test.ensures c.in-Some.is).0 _ _
+    c.in_ok-done.ensures.edits (omega arith)) in
     c.show.ensures _ _ known.sound known.fit ∙ known.shows

@@ -1,7 +1,8 @@
 -- `host::chidukwore_key` meets its contract: it is the key call, in numbers, where the mode is one.
 use Rattle.std.specs.Prelude.{true, false}
+use Rattle.std.proofs.Common.{rules}
 use mathlib.Core.Path.{sym, ◌∙◌}
-use Rattle.window.proofs.Laws.HostNumbers.{keyed-given, refused-numbers, no-mode-given}
+use Rattle.window.proofs.Laws.HostNumbers.{keyed-given, refused-numbers, no-mode-given, ended}
 use Rattle.window.proofs.host.chidukwore_key.Goals as goal
 
 pub returns-then-tabled_stores : goal.returns-then-tabled_stores
@@ -16,11 +17,13 @@ returns-then-mode-gt1 c =
 
 pub returns-in-Ok : goal.returns-in-Ok
 returns-in-Ok c =
-    keyed-given _ _ c.in_numbers.ensures c.args.n _ _ _ _ _
-    c.if-mode-gt1.false c.from.ensures c.key_from-k.ensures c.in-Ok.ensures
+    ended (search rules) (search rules) (search rules) (search rules)
+    (keyed-given _ _ c.in_numbers.ensures c.args.n _ _ _ _ _
+    c.if-mode-gt1.false c.from.ensures c.key_from-k.ensures c.in-Ok.ensures.answers)
 
 pub returns-in-Err : goal.returns-in-Err
 returns-in-Err c =
     let back = refused-numbers c.args.n _ c.if-mode-gt1.false c.from.ensures c.refused-in-Err.ensures in
-    keyed-given _ _ back c.args.n _ _ _ _ _
-    c.if-mode-gt1.false c.from.ensures c.key_from-k.ensures c.in-Err.ensures
+    ended (search rules) (search rules) (search rules) (search rules)
+    (keyed-given _ _ back c.args.n _ _ _ _ _
+    c.if-mode-gt1.false c.from.ensures c.key_from-k.ensures c.in-Err.ensures.answers)
