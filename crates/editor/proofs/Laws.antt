@@ -20,6 +20,7 @@ pub mod MatchScans
 pub mod Quotation
 pub mod Refusals
 pub mod Replies
+pub mod Neighbours
 pub mod PlaceScans
 pub mod HandedOver
 pub mod Fitting

@@ -205,7 +205,8 @@ fn find_left(d: View<'_>, pattern: &[u8]) -> Option<usize>
     nearest_match(Direction::Left, d.l, m, l + 1, pattern)
 }
 
-// The distance to the nearest match in a direction.
+// The distance to the nearest match in a direction. Going left a match may reach across the cursor, which asks for the other text too: so the two
+// searches stay two, where that for a place is one.
 pub fn match_distance(way: Direction, d: View<'_>, pattern: &[u8]) -> Option<usize>
     ensures { result ≡ distance way (matches pattern.now) (seen d.entry) }
 {

@@ -41,7 +41,8 @@ fn with_lines(found: Option<usize>, way: Direction, d: View<'_>) -> Option<Passa
     })
 }
 
-// To a place. This and the next hand different questions to `with_lines`, which is what they share.
+// To a place. This and the next are one call with another question: a caller that asked it first would owe that what is found lies within the
+// room, and so would a closure that asked it.
 pub fn place_passage(place: Place, way: Direction, d: View<'_>) -> Option<Passage>
     ensures { result ≡ passage_to way (is_at place way) (seen d.entry) }
 {

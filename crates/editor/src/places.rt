@@ -2,36 +2,14 @@
 ghost use Rattle.std.specs.Prelude.{◌≡◌, List, ℕ, ◌+◌, ◌≤◌, length, take, drop};
 ghost use Rattle.gap.specs.Rules.Nearest.{distance};
 ghost use Rattle.gap.specs.Wording.Views.{seen};
-ghost use Rattle.editor.specs.Rules.Places.{line_beginning, line_ending, neighbour_of, left_of, right_of, word, is_at};
+ghost use Rattle.editor.specs.Rules.Places.{neighbour_of, word, is_at};
 ghost use Rattle.editor.specs.Wording.Promise.{whole_of};
-ghost use Rattle.editor.specs.Wording.Searches.{facing};
+ghost use Rattle.editor.specs.Wording.Searches.{beside, line_end, facing};
 
 use crate::finds::lowest_place;
 use crate::{Neighbour, Place};
 use gap::Direction;
 use gap::views::View;
-
-// Place p of a text is a line beginning.
-pub fn line_beginning_at(t: &[u8], p: usize) -> bool
-    requires { p ≤ length t.now }
-    ensures { result ≡ line_beginning (record { l = take p t.now; r = drop p t.now }) }
-{
-    if p < 1 {
-        return true;
-    }
-    t[p - 1] == 10
-}
-
-// Place p of a text is a line ending.
-pub fn line_ending_at(t: &[u8], p: usize) -> bool
-    requires { p ≤ length t.now }
-    ensures { result ≡ line_ending (record { l = take p t.now; r = drop p t.now }) }
-{
-    if t.len() <= p {
-        return true;
-    }
-    t[p] == 10
-}
 
 // What a byte is to the word test.
 impl From<u8> for Neighbour {
@@ -46,27 +24,30 @@ impl From<u8> for Neighbour {
     }
 }
 
-// What stands left of place p of a text. Left and right differ in where the text ends and in the byte, so this and the next stay two, as do
-// the two tests of lines above.
-fn left_of(t: &[u8], p: usize) -> Neighbour
+// What stands beside place p of a text in a direction.
+fn beside(t: &[u8], p: usize, way: Direction) -> Neighbour
     requires { p ≤ length t.now }
-    ensures { result ≡ left_of (record { l = take p t.now; r = drop p t.now }) }
+    ensures { result ≡ beside way (record { l = take p t.now; r = drop p t.now }) }
 {
-    if p < 1 {
-        return Neighbour::Nothing;
+    match way {
+        Direction::Left if 0 < p => Neighbour::from(t[p - 1]),
+        Direction::Right if p < t.len() => Neighbour::from(t[p]),
+        _ => Neighbour::Nothing,
     }
-    Neighbour::from(t[p - 1])
 }
 
-// What stands right of it.
-fn right_of(t: &[u8], p: usize) -> Neighbour
+// Place p of a text is an end of a line: to the left, where it begins, and to the right, where it ends.
+#[tactic(auto, using(crate::proofs::Laws::Neighbours::line_known))]
+pub fn line_end_at(t: &[u8], p: usize, way: Direction) -> bool
     requires { p ≤ length t.now }
-    ensures { result ≡ right_of (record { l = take p t.now; r = drop p t.now }) }
+    ensures { result ≡ line_end way (record { l = take p t.now; r = drop p t.now }) }
 {
-    if t.len() <= p {
-        return Neighbour::Nothing;
+    match beside(t, p, way) {
+        Neighbour::Nothing => true,
+        Neighbour::Space => false,
+        Neighbour::Newline => true,
+        Neighbour::Other => false,
     }
-    Neighbour::from(t[p])
 }
 
 // Place p of a text is a word place: one decision for each pair. The right side is asked for where the left one is known, so that inside a
@@ -76,26 +57,26 @@ pub fn word_at(t: &[u8], p: usize) -> bool
     requires { p ≤ length t.now }
     ensures { result ≡ word (record { l = take p t.now; r = drop p t.now }) }
 {
-    match left_of(t, p) {
-        Neighbour::Nothing => match right_of(t, p) {
+    match beside(t, p, Direction::Left) {
+        Neighbour::Nothing => match beside(t, p, Direction::Right) {
             Neighbour::Nothing => true,
             Neighbour::Space => true,
             Neighbour::Newline => true,
             Neighbour::Other => true,
         },
-        Neighbour::Space => match right_of(t, p) {
+        Neighbour::Space => match beside(t, p, Direction::Right) {
             Neighbour::Nothing => true,
             Neighbour::Space => false,
             Neighbour::Newline => false,
             Neighbour::Other => true,
         },
-        Neighbour::Newline => match right_of(t, p) {
+        Neighbour::Newline => match beside(t, p, Direction::Right) {
             Neighbour::Nothing => true,
             Neighbour::Space => true,
             Neighbour::Newline => true,
             Neighbour::Other => true,
         },
-        Neighbour::Other => match right_of(t, p) {
+        Neighbour::Other => match beside(t, p, Direction::Right) {
             Neighbour::Nothing => false,
             Neighbour::Space => false,
             Neighbour::Newline => false,
@@ -113,8 +94,8 @@ pub fn stands(place: Place, way: Direction, t: &[u8], p: usize) -> bool
     match place {
         Place::Character => true,
         Place::Word => word_at(t, p),
-        Place::LineBeginning => line_beginning_at(t, p),
-        Place::LineEnding => line_ending_at(t, p),
+        Place::LineBeginning => line_end_at(t, p, Direction::Left),
+        Place::LineEnding => line_end_at(t, p, Direction::Right),
         Place::Document => match way {
             Direction::Left => p < 1,
             Direction::Right => t.len() - p < 1,
@@ -137,16 +118,6 @@ fn scan(place: Place, way: Direction, t: &[u8]) -> Option<usize>
     None
 }
 
-// The same; to the end of the text there is nothing to look for.
-fn text_distance(place: Place, way: Direction, t: &[u8]) -> Option<usize>
-    ensures { (other : List ℕ) → result ≡ distance way (is_at place way) (facing way t.now other) }
-{
-    match place {
-        Place::Document => whole(t),
-        _ => scan(place, way, t),
-    }
-}
-
 // The distance over all of a text.
 fn whole(t: &[u8]) -> Option<usize>
     ensures { result ≡ whole_of (length t.now) }
@@ -158,12 +129,13 @@ fn whole(t: &[u8]) -> Option<usize>
     Some(n)
 }
 
-// The distance in a direction.
+// The distance in a direction. To the end of the text there is nothing to look for.
 pub fn place_distance(place: Place, way: Direction, d: View<'_>) -> Option<usize>
     ensures { result ≡ distance way (is_at place way) (seen d.entry) }
 {
-    match way {
-        Direction::Left => text_distance(place, way, d.l),
-        Direction::Right => text_distance(place, way, d.r),
+    let t = d.toward(way);
+    match place {
+        Place::Document => whole(t),
+        _ => scan(place, way, t),
     }
 }

@@ -1,12 +1,12 @@
 // Keys on one side: a text in a gap store and its recall text in a pair store of the same length. A key that leaves the recall text
 // alone is not lent it, or lent it for reading. No line of the text is longer than a limit, and none may become longer.
-ghost use Rattle.std.specs.Prelude.{◌≡◌, true, ℕ, ◌≤◌, length};
-ghost use Rattle.gap.specs.Rules.Doc.{content, move, times};
-ghost use Rattle.gap.specs.Rules.Layout.{gapped, ungap, IsGap};
+ghost use Rattle.std.specs.Prelude.{◌≡◌, true, ℕ, ◌≤◌};
+ghost use Rattle.gap.specs.Rules.Doc.{content};
+ghost use Rattle.gap.specs.Rules.Layout.{ungap, IsGap};
 ghost use Rattle.gap.specs.Rules.LineLimits.{lines_fit};
 ghost use Rattle.editor.specs.declared.Action.TheVariants.{Move, Delete};
 ghost use Rattle.editor.specs.Rules.Keys.{inserted, carried, function, recalled};
-ghost use Rattle.editor.specs.Wording.Promise.{room_of, OnSide, EditsSide, EditsText, editing, side_reply, side_done};
+ghost use Rattle.editor.specs.Wording.Promise.{room_of, deleted_by, OnSide, EditsSide, EditsText, editing, side_reply, side_done};
 
 use crate::indents::{newline_side, spaced_side, tab_side};
 use crate::passages::place_passage;
@@ -15,7 +15,7 @@ use crate::refusals::Refusal;
 use crate::splices::{join_fits, pair_fits};
 use crate::{Action, Edit, Passage, Place, SideDone, Sizes};
 use gap::Direction;
-use gap::texts::{delete_left, delete_right, move_left, move_right, place_pair};
+use gap::texts::{delete, move_cursor, place_pair};
 use gap::views::View;
 
 // A byte goes in, with no spaces behind it, and is not reported as a step.
@@ -28,18 +28,6 @@ pub fn insert_side(limit: usize, b: u8, n: Sizes, text: &mut [u8]) -> Result<Sid
     Ok(SideDone { report: QUIET, ..t })
 }
 
-// The cursor of a gap store goes d bytes.
-pub fn move_cursor(way: Direction, d: usize, l: usize, r: usize, text: &mut [u8])
-    requires gap { IsGap l r text.old }
-    requires d_bound { d ≤ room_of way (record { l = l; r = r; rl = 0; rr = 0 }) }
-    ensures { text.new ≡ gapped (length text.old) (times (move way) d (ungap l r text.old)) }
-{
-    match way {
-        Direction::Left => move_left(text, l, r, d),
-        Direction::Right => move_right(text, l, r, d),
-    }
-}
-
 // A move. The lines stay as they are.
 pub fn move_side(way: Direction, passage: Passage, n: Sizes, text: &mut [u8]) -> SideDone
     requires gap { IsGap n.l n.r text.old }
@@ -48,10 +36,31 @@ pub fn move_side(way: Direction, passage: Passage, n: Sizes, text: &mut [u8]) ->
 {
     let d = passage.steps;
     let m = moved_by(way, d, n);
-    move_cursor(way, d, n.l, n.r, text);
+    move_cursor(text, n.l, n.r, way, d);
     SideDone {
         report: went(d, passage.lines),
         sizes: m,
+    }
+}
+
+// The sizes after d deletions: what they take away is the recall text.
+fn deleted_by(way: Direction, d: usize, n: Sizes) -> Sizes
+    requires { d ≤ room_of way n }
+    ensures { result ≡ deleted_by way d n }
+{
+    match way {
+        Direction::Left => Sizes {
+            l: n.l - d,
+            r: n.r,
+            rl: d,
+            rr: 0,
+        },
+        Direction::Right => Sizes {
+            l: n.l,
+            r: n.r - d,
+            rl: 0,
+            rr: d,
+        },
     }
 }
 
@@ -70,39 +79,15 @@ pub fn delete_side(
         text.new recall.new }
 {
     let d = passage.steps;
-    let report = went(d, passage.lines);
-    match way {
-        Direction::Left => {
-            if !join_fits(limit, View::of(text, n.l - d, n.r)) {
-                return Err(Refusal::Line);
-            }
-            delete_left(text, n.l, n.r, d, recall);
-            Ok(SideDone {
-                report,
-                sizes: Sizes {
-                    l: n.l - d,
-                    r: n.r,
-                    rl: d,
-                    rr: 0,
-                },
-            })
-        }
-        Direction::Right => {
-            if !join_fits(limit, View::of(text, n.l, n.r - d)) {
-                return Err(Refusal::Line);
-            }
-            delete_right(text, n.l, n.r, d, recall);
-            Ok(SideDone {
-                report,
-                sizes: Sizes {
-                    l: n.l,
-                    r: n.r - d,
-                    rl: 0,
-                    rr: d,
-                },
-            })
-        }
+    let m = deleted_by(way, d, n);
+    if !join_fits(limit, View::of(text, m.l, m.r)) {
+        return Err(Refusal::Line);
     }
+    delete(text, n.l, n.r, way, d, recall);
+    Ok(SideDone {
+        report: went(d, passage.lines),
+        sizes: m,
+    })
 }
 
 // A move or deletion.

@@ -2,4 +2,5 @@
 pub mod Written
 pub mod LinesAfter
 pub mod Closures
+pub mod Sides
 pub mod Views

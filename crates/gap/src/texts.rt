@@ -1,33 +1,26 @@
-// Gap stores: moving the cursor, inserting, deleting into a pair store, and placing a pair into the text. Left and right stand apart: each asks
-// a bound of its own and names places of its own, so that one function over the direction would be both of them behind a `match`.
+// Gap stores: moving the cursor, inserting, deleting into a pair store, and placing a pair into the text.
 ghost use Rattle.std.specs.Prelude.{◌≡◌, [], ◌∷◌, ◌+◌, ◌≤◌, ◌<◌, length, take};
-ghost use Rattle.gap.specs.declared.Direction.TheVariants.{Left, Right};
 ghost use Rattle.gap.specs.Rules.Doc.{empty, move, delete, times, removed, splice};
 ghost use Rattle.gap.specs.Rules.Indents.{spaces};
 ghost use Rattle.gap.specs.Rules.Layout.{gapped, paired, ungap, IsGap};
+ghost use Rattle.gap.specs.Wording.Sides.{side};
 ghost use Rattle.gap.specs.Wording.Views.{seen};
 
+use crate::Direction;
 use crate::runs::{clear_from, copy_at, fill_at, hold, shift, take_out, vacate};
 use crate::views::View;
 
-// The cursor goes d bytes left: they cross the gap.
-pub fn move_left(s: &mut [u8], l: usize, r: usize, d: usize)
+// The cursor goes d bytes in a direction: they cross the gap.
+pub fn move_cursor(s: &mut [u8], l: usize, r: usize, way: Direction, d: usize)
     requires gap { IsGap l r s.old }
-    requires d_le_l { d ≤ l }
-    ensures { s.new ≡ gapped (length s.old) (times (move Left) d (ungap l r s.old)) }
+    requires d_bound { d ≤ side way l r }
+    ensures { s.new ≡ gapped (length s.old) (times (move way) d (ungap l r s.old)) }
 {
     let back = s.len() - r;
-    shift(s, l - d, back - d, d);
-}
-
-// The cursor goes d bytes right.
-pub fn move_right(s: &mut [u8], l: usize, r: usize, d: usize)
-    requires gap { IsGap l r s.old }
-    requires d_le_r { d ≤ r }
-    ensures { s.new ≡ gapped (length s.old) (times (move Right) d (ungap l r s.old)) }
-{
-    let back = s.len() - r;
-    shift(s, back, l, d);
+    match way {
+        Direction::Left => shift(s, l - d, back - d, d),
+        Direction::Right => shift(s, back, l, d),
+    }
 }
 
 // A byte and n spaces behind it go in left of the cursor.
@@ -40,25 +33,18 @@ pub fn insert_spaced(s: &mut [u8], l: usize, r: usize, b: u8, n: usize)
     fill_at(s, l + 1, n, b' ');
 }
 
-// The d bytes left of the cursor go into the pair store, which then holds nothing else.
-pub fn delete_left(s: &mut [u8], l: usize, r: usize, d: usize, pair: &mut [u8])
+// The d bytes beside the cursor in a direction go into the pair store, which then holds nothing else.
+pub fn delete(s: &mut [u8], l: usize, r: usize, way: Direction, d: usize, pair: &mut [u8])
     requires gap { IsGap l r s.old }
-    requires d_le_l { (d ≤ l) × (d ≤ length pair.old) }
-    ensures s_after { s.new ≡ gapped (length s.old) (times (delete Left) d (ungap l r s.old)) }
-    ensures pair_after { pair.new ≡ paired (length pair.old) (removed Left d (ungap l r s.old)) }
+    requires d_bound { (d ≤ side way l r) × (d ≤ length pair.old) }
+    ensures s_after { s.new ≡ gapped (length s.old) (times (delete way) d (ungap l r s.old)) }
+    ensures pair_after { pair.new ≡ paired (length pair.old) (removed way d (ungap l r s.old)) }
 {
-    take_out(s, l - d, d, pair);
-}
-
-// The d bytes right of the cursor go into the pair store.
-pub fn delete_right(s: &mut [u8], l: usize, r: usize, d: usize, pair: &mut [u8])
-    requires gap { IsGap l r s.old }
-    requires d_le_r { (d ≤ r) × (d ≤ length pair.old) }
-    ensures s_after { s.new ≡ gapped (length s.old) (times (delete Right) d (ungap l r s.old)) }
-    ensures pair_after { pair.new ≡ paired (length pair.old) (removed Right d (ungap l r s.old)) }
-{
-    let back = s.len() - r;
-    take_out(s, back, d, pair);
+    let at = match way {
+        Direction::Left => l - d,
+        Direction::Right => s.len() - r,
+    };
+    take_out(s, at, d, pair);
 }
 
 // Both halves of a pair go in around the cursor.
@@ -97,5 +83,5 @@ pub fn open_text(s: &mut [u8], n: usize)
     ensures { s.new ≡ gapped (length s.old) (record { l = []; r = take n s.old }) }
 {
     clear_from(s, n);
-    move_left(s, n, 0, n);
+    move_cursor(s, n, 0, Direction::Left, n);
 }

@@ -1,7 +1,9 @@
 // Documents to be read: the two runs of bytes that stand left and right of a cursor.
 ghost use Rattle.std.specs.Prelude.{◌≡◌, ◌+◌, ◌≤◌, length};
 ghost use Rattle.gap.specs.Rules.Layout.{ungap, unpair};
-ghost use Rattle.gap.specs.Wording.Views.{seen};
+ghost use Rattle.gap.specs.Wording.Views.{seen, toward};
+
+use crate::Direction;
 
 #[derive(Clone, Copy)]
 pub struct View<'a> {
@@ -33,6 +35,17 @@ impl<'a> View<'a> {
         View {
             l: &s[..x],
             r: &s[x..end],
+        }
+    }
+
+    // The text that lies in a direction of the cursor.
+    #[tactic(auto, unfolding(crate::specs::Wording::Views::seen))]
+    pub fn toward(self, way: Direction) -> &'a [u8]
+        ensures { result.now ≡ toward way (seen self.entry) }
+    {
+        match way {
+            Direction::Left => self.l,
+            Direction::Right => self.r,
         }
     }
 }

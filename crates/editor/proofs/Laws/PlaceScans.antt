@@ -3,7 +3,7 @@
 use Rattle.std.proofs.Common.{Option}
 use mathlib.Core.Path.{◌≡◌, refl, sym, ap, ap₂, ◌∙◌}
 use mathlib.Core.Logic.{⊎_elim}
-use mathlib.Core.Bool.{Bool, true}
+use mathlib.Core.Bool.{Bool}
 use mathlib.Core.List.{List, [], ◌∷◌, ◌++◌}
 use Prim.Native.Nat.{ℕ, suc, ◌+◌, ◌-◌, ◌≤◌, ◌<◌}
 use native.Mathlib.Omega.{arith}
@@ -24,6 +24,7 @@ use Rattle.editor.specs.declared.Neighbour.TheVariants.{Nothing, Space, Newline,
 use Rattle.editor.specs.Rules.Places.{is_newline, empty_or, is_empty, line_beginning, line_ending, document_end, is_at}
 use Rattle.editor.specs.Rules.Places.{neighbour_of, first_neighbour, left_of, right_of, word_between, word}
 use Rattle.editor.specs.Wording.Promise.{whole_of}
+use Rattle.gap.specs.Wording.Views.{toward}
 use Rattle.editor.specs.Wording.Searches.{lowest, facing}
 
 -- The cursor at place p of a text.
@@ -35,24 +36,6 @@ module _ (t : List ℕ) (p : ℕ) where
   byte-before above fits =
       let same : p ≡ suc (p - 1) = omega arith in
       ap (λ k. last_of (take k t)) same ∙ rw (take-suc t (p - 1) 0 (omega arith)) (back-append (take (p - 1) t) _ 1 refl)
-
-  -- Place p is a line beginning: it is the first, or a newline stands before it.
-  pub beginning-first : p < 1 → true ≡ line_beginning (cut_at p t)
-  unfolding line_beginning
-  beginning-first h = let none : p ≡ 0 = omega arith in rw none
-
-  pub beginning-later : 1 ≤ p → p ≤ length t → is_newline (get_or t (p - 1) 0) ≡ line_beginning (cut_at p t)
-  unfolding line_beginning
-  beginning-later above fits = sym (ap (empty_or is_newline) (byte-before above fits))
-
-  -- Place p is a line ending: it is the last, or a newline stands behind it.
-  pub ending-last : length t ≤ p → true ≡ line_ending (cut_at p t)
-  unfolding line_ending
-  ending-last end = sym (ap (empty_or is_newline) (drop_of_length-le t end))
-
-  pub ending-before : p < length t → is_newline (get_or t p 0) ≡ line_ending (cut_at p t)
-  unfolding line_ending
-  ending-before more = sym (ap (empty_or is_newline) (drop-cons t p 0 more))
 
   -- What stands left of place p: nothing before the first, else the byte before it.
   pub left-first : p < 1 → Nothing ≡ left_of (cut_at p t)
@@ -191,10 +174,8 @@ pub lowest-within : (way : Direction) (n d : ℕ) → d ≤ n → lowest way n d
 lowest-within Left n d h = omega arith
 lowest-within Right n d h = h
 
--- So it is in a document, by the text on that side.
-module _ (place : Place) {way : Direction} {found : Option ℕ} (d : Doc) where
-  pub found-left : way ≡ Left → ((other : List ℕ) → found ≡ distance way (is_at place way) (facing way d.l other)) → found ≡ distance way (is_at place way) d
-  found-left toward e = let known = rw toward at (e d.r) in distance-known d refl toward known
-
-  pub found-right : way ≡ Right → ((other : List ℕ) → found ≡ distance way (is_at place way) (facing way d.r other)) → found ≡ distance way (is_at place way) d
-  found-right toward e = let known = rw toward at (e d.l) in distance-known d refl toward known
+-- So it is in a document, by the text that lies in the direction.
+pub found-toward : (place : Place) (way : Direction) {found : Option ℕ} (d : Doc)
+    → ((other : List ℕ) → found ≡ distance way (is_at place way) (facing way (toward way d) other)) → found ≡ distance way (is_at place way) d
+found-toward place Left d e = e d.r
+found-toward place Right d e = e d.l

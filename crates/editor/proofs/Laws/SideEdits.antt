@@ -16,6 +16,7 @@ use Rattle.gap.specs.Rules.Lines.{newline, since}
 use Rattle.gap.specs.Rules.Indents.{space, spaces, indent}
 use Rattle.gap.specs.Rules.Layout.{gapped, paired, ungap, unpair, IsGap}
 use Rattle.gap.specs.Rules.LineLimits.{lines_fit}
+use Rattle.gap.specs.Wording.Sides.{side}
 use Rattle.gap.proofs.Laws.Tests.{cond-true, cond-false}
 use Rattle.gap.proofs.Laws.Sequence.{length_part}
 use Rattle.gap.proofs.Laws.Doc.{deletions-left, deletions-right, insertions, content-moves, length-moves, room-moves, room-behind}
@@ -32,7 +33,7 @@ use Rattle.editor.specs.Rules.Keys.{inserted, carried, function, recalled}
 use Rattle.editor.specs.Rules.Places.{is_at}
 use Rattle.editor.specs.Rules.Passages.{with_lines, passage_to}
 use Rattle.editor.specs.Rules.Bytes.{sizes_of}
-use Rattle.editor.specs.Wording.Promise.{room_of, InRoom, moved_by, OnSide, HalvesFit, side_held, refused_reply, done_reply, written, EditsSide}
+use Rattle.editor.specs.Wording.Promise.{room_of, InRoom, moved_by, deleted_by, OnSide, HalvesFit, side_held, refused_reply, done_reply, written, EditsSide}
 
 module _ (limit : ℕ) (n : Sizes) (text recall : List ℕ) (did : Did Side) where
   abbrev finished : Doc
@@ -70,22 +71,16 @@ same-sizes : {a b c d e f g h : ℕ} → a ≡ b → c ≡ d → e ≡ f → g �
     → ◌≡◌ {A = Sizes} (record { l = a; r = c; rl = e; rr = g }) (record { l = b; r = d; rl = f; rr = h })
 same-sizes l r rl rr = λ i. record { l = l i; r = r i; rl = rl i; rr = rr i }
 
--- The recall text does not count for the room of a move.
-pub room_of_lem : (way : Direction) (n : Sizes) → room_of way n ≡ room_of way (record { l = n.l; r = n.r; rl = 0; rr = 0 })
+-- The room of a move is what lies in its direction.
+pub room_of_lem : (way : Direction) (n : Sizes) → room_of way n ≡ side way n.l n.r
 room_of_lem Left n = refl
 room_of_lem Right n = refl
 
--- The sizes after d deletions.
-abbrev pub deleted_by : Direction → ℕ → Sizes → Sizes
-deleted_by Left d n = record { l = n.l - d; r = n.r; rl = d; rr = 0 }
-deleted_by Right d n = record { l = n.l; r = n.r - d; rl = 0; rr = d }
-
 -- What d deletions leave of a text in its store.
 abbrev pub kept_by : Direction → ℕ → Sizes → List ℕ → Doc
-kept_by Left d n text = ungap (n.l - d) n.r text
-kept_by Right d n text = ungap n.l (n.r - d) text
+kept_by way d n text = ungap (deleted_by way d n).l (deleted_by way d n).r text
 
-deletions-shorten : (way : Direction) (d : ℕ) (n : Sizes) → (deleted_by way d n).l + (deleted_by way d n).r ≤ n.l + n.r
+pub deletions-shorten : (way : Direction) (d : ℕ) (n : Sizes) → (deleted_by way d n).l + (deleted_by way d n).r ≤ n.l + n.r
 deletions-shorten Left d n = omega arith
 deletions-shorten Right d n = omega arith
 
@@ -114,7 +109,7 @@ hushed-written limit n text recall did =
 
 -- A distance that was found is within the room, and so are the moves of a passage.
 room-held : (way : Direction) (l r : ℕ) (text : List ℕ) → l + r ≤ length text
-    → room_of way (record { l = l; r = r; rl = 0; rr = 0 }) ≡ room way (ungap l r text)
+    → side way l r ≡ room way (ungap l r text)
 room-held Left l r text fits = sym (length-left _ _ _ fits)
 room-held Right l r text fits = sym (length-right _ _ _ fits)
 

@@ -4,29 +4,20 @@ use mathlib.Core.Logic.{inl, inr, ◌↔◌, ◌≢◌, ⊎_elim}
 use mathlib.Core.Bool.{Bool, true, false, not, ◌&&◌, ◌||◌}
 use mathlib.Core.List.{List, [], ◌∷◌, ◌++◌}
 use Prim.Native.Nat.{ℕ}
-use lib.Dec.{eqb}
-use borrow.Author.Tests.{eqb-true, eqb-false, ne_eqb}
+use borrow.Author.Tests.{ne_eqb}
 use Rattle.gap.specs.Rules.Sequence.{last_of}
 use Rattle.gap.specs.Rules.Doc.{Doc}
 use Rattle.gap.specs.Rules.Lines.{newline}
 use Rattle.gap.proofs.Laws.Doc.{back-append}
-use Rattle.gap.proofs.Laws.Tests.{decided, clash, or_right}
+use Rattle.gap.proofs.Laws.Tests.{clash, or_right}
 use Rattle.editor.specs.Words.{Neighbour}
 use Rattle.editor.specs.declared.Neighbour.TheVariants.{Nothing, Space, Newline, Other}
 use Rattle.editor.specs.Rules.Places.{empty_or, is_newline, line_beginning, line_ending, neighbour_of, first_neighbour, left_of, right_of}
 use Rattle.editor.specs.Rules.Places.{word_between, word}
+use Rattle.editor.proofs.Laws.Neighbours.{by_byte, seen, line_ends, line-seen}
 use Rattle.editor.specs.Wording.Neighbours.{blank, AtBeginning, AtEnding, BeforeWord, AtWord}
 use Rattle.editor.specs.Wording.Neighbours.{EndsIn, no_end, end-space, end-newline, end-other}
 use Rattle.editor.specs.Wording.Neighbours.{BeginsWith, no_start, start-space, start-newline, start-other}
-
--- A byte is a space, a newline or another one.
-by_byte : {A : Type 0} (b : ℕ) → (b ≡ 32 → A) → (b ≡ newline → A) → (b ≢ 32 → b ≢ newline → A) → A
-by_byte b is-space is-newline is-other =
-    ⊎_elim (λ e. is-space (eqb-true b 32 e))
-    (λ no-space.
-    ⊎_elim (λ e. is-newline (eqb-true b newline e)) (λ no-newline. is-other (eqb-false b 32 no-space) (eqb-false b newline no-newline))
-    (decided (eqb b newline)))
-    (decided (eqb b 32))
 
 -- ---- The tests by what stands there
 
@@ -42,20 +33,6 @@ other_behind Space = false
 other_behind Newline = false
 other_behind Other = true
 
-line_ends : Neighbour → Bool
-line_ends Nothing = true
-line_ends Space = false
-line_ends Newline = true
-line_ends Other = false
-
--- A test that is known for a space, for a newline and for every other byte sees no more than the neighbour.
-seen : (test : ℕ → Bool) (by : Neighbour → Bool) → by Nothing ≡ true → test 32 ≡ by Space → test newline ≡ by Newline
-    → ((b : ℕ) → b ≢ 32 → b ≢ newline → test b ≡ by Other) → (s : List ℕ) → empty_or test s ≡ by (first_neighbour s)
-seen test by nothing space line other [] = sym nothing
-seen test by nothing space line other (b ∷ s) =
-    by_byte b (λ e. rw e space) (λ e. rw e line)
-    (λ no-space no-newline. rw (ne_eqb b 32 no-space, ne_eqb b newline no-newline) (other b no-space no-newline))
-
 not-blank : (b : ℕ) → b ≢ 32 → b ≢ newline → blank b ≡ false
 not-blank b no-space no-newline = rw (ne_eqb b 32 no-space, ne_eqb b newline no-newline)
 
@@ -67,12 +44,8 @@ other-seen : (s : List ℕ) → empty_or (λ b. not (blank b)) s ≡ other_behin
 unfolding other_behind
 other-seen = seen (λ b. not (blank b)) other_behind refl refl refl (λ b no-space no-newline. ap not (not-blank b no-space no-newline))
 
-line-seen : (s : List ℕ) → empty_or is_newline s ≡ line_ends (first_neighbour s)
-unfolding line_ends
-line-seen = seen is_newline line_ends refl refl refl (λ b no-space no-newline. ne_eqb b newline no-newline)
-
 by-pairs : (left right : Neighbour) → word_between left right ≡ ((blank_before left && other_behind right) || line_ends left)
-unfolding blank_before other_behind line_ends
+unfolding blank_before other_behind
 by-pairs Nothing Nothing = refl
 by-pairs Nothing Space = refl
 by-pairs Nothing Newline = refl
@@ -156,7 +129,7 @@ ends_some (b ∷ t) = let (front, last, e) = last_apart b t in rw e (byte-ends f
 
 -- Line beginning: l empty or ending in newline.
 pub line-beginning-place : (d : Doc) → (line_beginning d ≡ true) ↔ AtBeginning d
-unfolding line_beginning line_ends
+unfolding line_beginning
 line-beginning-place d = (λ e. go (ends_some d.l).0 (ends_some d.l).1 e, ⊎_elim ends-line ends-line)
   where
     go : (beside : Neighbour) → EndsIn d.l beside → empty_or is_newline (last_of d.l) ≡ true → AtBeginning d
@@ -167,7 +140,7 @@ line-beginning-place d = (λ e. go (ends_some d.l).0 (ends_some d.l).1 e, ⊎_el
 
 -- Line ending: r empty or beginning with newline.
 pub line-ending-place : (d : Doc) → (line_ending d ≡ true) ↔ AtEnding d
-unfolding line_ending line_ends
+unfolding line_ending
 line-ending-place d = (λ e. go (begins-some d.r).0 (begins-some d.r).1 e, ⊎_elim begins-line begins-line)
   where
     go : (beside : Neighbour) → BeginsWith d.r beside → empty_or is_newline d.r ≡ true → AtEnding d

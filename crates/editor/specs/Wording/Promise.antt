@@ -34,6 +34,11 @@ abbrev pub moved_by : Direction → ℕ → Sizes → Sizes
 moved_by Left d n = record { l = n.l - d; r = n.r + d; rl = n.rl; rr = n.rr }
 moved_by Right d n = record { l = n.l + d; r = n.r - d; rl = n.rl; rr = n.rr }
 
+-- The sizes after d deletions.
+abbrev pub deleted_by : Direction → ℕ → Sizes → Sizes
+deleted_by Left d n = record { l = n.l - d; r = n.r; rl = d; rr = 0 }
+deleted_by Right d n = record { l = n.l; r = n.r - d; rl = 0; rr = d }
+
 -- Two stores of one length hold a side with these sizes, and no line of its text is longer than a limit.
 pub record OnSide (limit : ℕ) (n : Sizes) (text recall : List ℕ) : Type 0 where
   pub gap : IsGap n.l n.r text

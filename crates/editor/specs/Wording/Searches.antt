@@ -1,8 +1,9 @@
 -- How the promises of a search's parts speak: which matches they look at, and where a match may begin.
 use Rattle.std.specs.Prelude.{◌≡◌, ◌≤◌, ◌<◌, get_or, List, Bool, ◌&&◌, ℕ, ◌+◌, ◌-◌, eqb, length, drop}
-use Rattle.editor.specs.Words.{Direction, Left, Right}
+use Rattle.editor.specs.Words.{Direction, Left, Right, Neighbour}
 use Rattle.gap.specs.Rules.Sequence.{begins}
 use Rattle.gap.specs.Rules.Doc.{Doc}
+use Rattle.editor.specs.Rules.Places.{left_of, right_of, line_beginning, line_ending}
 
 -- The lowest of the places that are d to e bytes away from the cursor, in the text of n bytes that ends or begins there.
 abbrev pub lowest : Direction → ℕ → ℕ → ℕ → ℕ
@@ -13,6 +14,16 @@ lowest Right n d e = d
 abbrev pub facing : Direction → List ℕ → List ℕ → Doc
 facing Left text other = record { l = text; r = other }
 facing Right text other = record { l = other; r = text }
+
+-- What stands beside the cursor in a direction, and whether that makes its place an end of a line: one where the line begins, to the
+-- left, and one where it ends, to the right.
+abbrev pub beside : Direction → Doc → Neighbour
+beside Left d = left_of d
+beside Right d = right_of d
+
+abbrev pub line_end : Direction → Doc → Bool
+line_end Left d = line_beginning d
+line_end Right d = line_ending d
 
 -- In that text, a match begins d bytes away.
 abbrev pub match_away : Direction → List ℕ → List ℕ → ℕ → Bool

@@ -11,10 +11,11 @@ use Rattle.gap.specs.declared.Direction.TheVariants.{Left, Right}
 use Rattle.gap.specs.Rules.Sequence.{zeros}
 use Rattle.gap.specs.Rules.Doc.{Doc, room, move, times}
 use Rattle.gap.specs.Rules.Layout.{gapped, ungap, IsGap}
+use Rattle.gap.specs.Wording.Sides.{side}
 use Rattle.gap.proofs.Laws.Doc.{moves-left, moves-right}
 use Rattle.gap.proofs.Laws.Layout.{length-gapped, ungap-gapped, length-left, length-right}
 use Rattle.gap.proofs.Laws.Shifts.{carried}
-use Rattle.gap.proofs.Laws.Stores.{Filled, fill-left, fill-right, taken, vacated, placed, side, sizes, enough}
+use Rattle.gap.proofs.Laws.Stores.{Filled, fill-left, fill-right, taken, vacated, placed, sizes, enough}
 
 -- The run v of k bytes left of the cursor, at `front`, or right of it, at `back`: without it both stores are the same. So the two
 -- places may overlap or be the same.

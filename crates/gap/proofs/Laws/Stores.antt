@@ -12,6 +12,7 @@ use Rattle.gap.specs.Rules.Sequence.{part, patch, zeros}
 use Rattle.gap.specs.Rules.Doc.{Doc, room, delete, times, passed, removed, splice}
 use Rattle.gap.specs.Rules.Indents.{space, spaces}
 use Rattle.gap.specs.Rules.Layout.{gapped, paired, ungap, IsGap}
+use Rattle.gap.specs.Wording.Sides.{side}
 use Rattle.gap.proofs.Laws.Sequence.{length-zeros}
 use Rattle.gap.proofs.Laws.Doc.{same-texts, deletions-left, deletions-right, insertions}
 use Rattle.gap.proofs.Laws.Layout.{length-left, length-right}
@@ -77,11 +78,7 @@ module _ (n k place : ℕ) (x y z : List ℕ) (size : length y ≡ k) (fits : le
         rw (e, ← zeros-both) (simp append_assoc);
   }
 
--- The k bytes beside the cursor in a store of n bytes that holds l and r of them: on which side there must be k, and where they begin.
-abbrev pub side : Direction → ℕ → ℕ → ℕ
-side Left l r = l
-side Right l r = r
-
+-- Where the k bytes beside the cursor begin, in a store of n bytes that holds l and r of them.
 abbrev pub from : Direction → ℕ → ℕ → ℕ → ℕ → ℕ
 from Left n l r k = l - k
 from Right n l r k = n - r

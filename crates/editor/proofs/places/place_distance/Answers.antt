@@ -1,12 +1,14 @@
--- `places::place_distance`: on either side it is a search through the text there.
-use Rattle.gap.specs.Wording.Views.{seen}
-use Rattle.editor.proofs.Laws.PlaceScans.{found-left, found-right}
+-- `place_distance`: it is a search through the text that lies in the direction, and its end is all of it away.
+use mathlib.Core.Path.{refl, ◌∙◌}
+use Rattle.editor.specs.Words.{Document}
+use Rattle.editor.proofs.Laws.PlaceScans.{distance-known, distance-whole, found-toward}
 use Rattle.editor.proofs.places.place_distance.Goals as goal
 
-pub returns-in-Left : goal.returns-in-Left
-unfolding seen
-returns-in-Left c = found-left _ _ c.in-Left.is c.text_distance.ensures
+pub returns-in-Document : goal.returns-in-Document
+returns-in-Document c =
+    found-toward _ _ _
+    (λ other. distance-known _ c.in-Document.is refl
+    (rw c.toward-t.ensures at (c.whole.ensures ∙ distance-whole Document c.toward-t.result.now other c.args.way)))
 
-pub returns-in-Right : goal.returns-in-Right
-unfolding seen
-returns-in-Right c = found-right _ _ c.in-Right.is c.text_distance-in-Right.ensures
+pub returns-in_default : goal.returns-in_default
+returns-in_default c = found-toward _ _ _ (rw c.toward-t.ensures at c.scan.ensures)

@@ -3,8 +3,8 @@ use mathlib.Core.Path.{◌∙◌}
 use Rattle.gap.proofs.Laws.Moves.{opened-gap, opened-text}
 use Rattle.gap.proofs.texts.open_text.Goals as goal
 
-pub move_left-requires-clause-gap : goal.move_left-requires-clause-gap
-move_left-requires-clause-gap c = opened-gap _ _ _ c.requires c.clear_from.ensures
+pub move_cursor-requires-clause-gap : goal.move_cursor-requires-clause-gap
+move_cursor-requires-clause-gap c = opened-gap _ _ _ c.requires c.clear_from.ensures
 
 pub returns : goal.returns
-returns c = c.move_left.ensures ∙ opened-text _ _ _ c.requires c.clear_from.ensures
+returns c = c.move_cursor.ensures ∙ opened-text _ _ _ c.requires c.clear_from.ensures
