@@ -10,7 +10,7 @@ ghost use Rattle.editor.specs.Rules.Keys.{matches};
 ghost use Rattle.editor.specs.Wording.Searches.{lowest, match_away, match_left, Reach, likely_at, Telling};
 
 use gap::Direction;
-use gap::compare::{run_begins, same_run};
+use gap::compare::{run_begins, same_bytes};
 use gap::views::View;
 
 // Two runs, the second behind the first, have the pattern at their front: each has its part of it.
@@ -21,7 +21,7 @@ fn runs_begin(x: &[u8], y: &[u8], pattern: &[u8]) -> bool
     if pattern.len() <= cut {
         return run_begins(x, 0, pattern);
     }
-    if same_run(&pattern[..cut], x) {
+    if same_bytes(&pattern[..cut], x) {
         return run_begins(y, 0, &pattern[cut..]);
     }
     false
@@ -72,7 +72,7 @@ fn likely(t: &[u8], at: usize, pattern: &[u8], k: usize) -> bool
     (t[at] == pattern[0]) & (t[at + k] == pattern[k]) & (t[at + last] == pattern[last])
 }
 
-// No match may begin at any of the 32 places from `at` on. As in `same_run`, the loop is vectorised.
+// No match may begin at any of the 32 places from `at` on. The loop carries a flag and has neither branch nor exit, so that it is vectorised.
 fn none_likely(t: &[u8], at: usize, pattern: &[u8], k: usize) -> bool
     requires { (at + 31 + length pattern.now ≤ length t.now) × (k < length pattern.now) }
     ensures { result ≡ every (λ place. not (likely_at pattern.now k t.now place)) (counted 32 at) }

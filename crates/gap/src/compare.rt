@@ -2,15 +2,6 @@
 ghost use Rattle.std.specs.Prelude.{◌≡◌, ◌≤◌, length, drop};
 ghost use Rattle.gap.specs.Rules.Sequence.{same_bytes, begins};
 
-// Two runs of one length are the same.
-#[tactic(auto, using(crate::proofs::Laws::Compared::pointwise_same))]
-pub fn same_run(a: &[u8], b: &[u8]) -> bool
-    requires { length a.now ≡ length b.now }
-    ensures { result ≡ same_bytes a.now b.now }
-{
-    a == b
-}
-
 // Both are the same, byte for byte.
 #[tactic(auto, using(crate::proofs::Laws::Compared::pointwise_same))]
 pub fn same_bytes(a: &[u8], b: &[u8]) -> bool

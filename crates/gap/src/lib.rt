@@ -7,7 +7,6 @@ pub mod fields;
 pub mod indents;
 pub mod line_limits;
 pub mod lines;
-pub mod numbers;
 pub mod runs;
 pub mod sound;
 pub mod texts;

@@ -1,12 +1,11 @@
-// Sequences of ECMA-48 written into a lent buffer from an index on, and how long they are.
+// Sequences of ECMA-48: how long they are, and how a writer writes them.
 ghost use Rattle.std.specs.Prelude.{◌≡◌, ◌+◌, ◌*◌, ◌≤◌, ◌<◌, length};
-ghost use Rattle.gap.specs.Wording.Written.{Wrote};
 ghost use Rattle.window.specs.Rules.Sequences.{sent_spot, sent_row, sent_rows, row_count, sent_column};
-ghost use Rattle.window.specs.Wording.Writing.{RowsIn, rows_size, sent_size};
+ghost use Rattle.window.specs.Wording.Writing.{RowsIn, filled, rows_size, sent_size};
 
 use crate::sender::Update;
-use gap::decimals::{decimal_size, put_decimal};
-use gap::writers::put;
+use crate::writer::Writer;
+use gap::decimals::decimal_size;
 
 // ---- How long
 
@@ -61,37 +60,37 @@ pub fn sent_size(w: usize, u: Update) -> usize
 
 // ---- Written
 
-pub fn put_spot(row: usize, column: usize, out: &mut [u8], at: usize) -> usize
-    requires { at + length (sent_spot row column) ≤ length out.old }
-    ensures { Wrote at (sent_spot row column) out.old result out.new }
-{
-    let row_at = put(b"\x1b[", out, at);
-    let row_end = put_decimal(row, out, row_at);
-    let column_at = put(b";", out, row_end);
-    let column_end = put_decimal(column, out, column_at);
-    put(b"H", out, column_end)
-}
-
-// The row below so many others: its spot and its cells.
-fn put_row(w: usize, above: usize, screen: &[u8], out: &mut [u8], at: usize) -> usize
-    requires above_bound { (above < 64) × (above * w + w ≤ length screen.now) }
-    requires above_in_bounds { at + length (sent_row w screen.now (above + 1)) ≤ length out.old }
-    ensures { Wrote at (sent_row w screen.now (above + 1)) out.old result out.new }
-{
-    let cells_at = put_spot(above + 1, 1, out, at);
-    let from = above * w;
-    put(&screen[from..from + w], out, cells_at)
-}
-
-// The named rows, one behind the other.
-pub fn put_rows(w: usize, u: Update, screen: &[u8], out: &mut [u8], at: usize) -> usize
-    requires rows_in { RowsIn w u.first u.last screen.now }
-    requires screen_in_bounds { at + length (sent_rows w u.first u.last screen.now) ≤ length out.old }
-    ensures { Wrote at (sent_rows w u.first u.last screen.now) out.old result out.new }
-{
-    let mut next = at;
-    for i in 0..u.row_count() {
-        next = put_row(w, u.first - 1 + i, screen, out, next);
+impl<'a> Writer<'a> {
+    pub fn put_spot(&mut self, row: usize, column: usize)
+        requires { self.old.at + length (sent_spot row column) ≤ length self.old.out.now }
+        ensures { self.new ≡ filled self.old (sent_spot row column) }
+    {
+        self.put(b"\x1b[");
+        self.put_number(row);
+        self.put(b";");
+        self.put_number(column);
+        self.put(b"H");
     }
-    next
+
+    // The row below so many others: its spot and its cells.
+    fn put_row(&mut self, w: usize, above: usize, screen: &[u8])
+        requires above_bound { (above < 64) × (above * w + w ≤ length screen.now) }
+        requires above_in_bounds { self.old.at + length (sent_row w screen.now (above + 1)) ≤ length self.old.out.now }
+        ensures { self.new ≡ filled self.old (sent_row w screen.now (above + 1)) }
+    {
+        self.put_spot(above + 1, 1);
+        let from = above * w;
+        self.put(&screen[from..from + w]);
+    }
+
+    // The named rows, one behind the other.
+    pub fn put_rows(&mut self, w: usize, u: Update, screen: &[u8])
+        requires rows_in { RowsIn w u.first u.last screen.now }
+        requires screen_in_bounds { self.old.at + length (sent_rows w u.first u.last screen.now) ≤ length self.old.out.now }
+        ensures { self.new ≡ filled self.old (sent_rows w u.first u.last screen.now) }
+    {
+        for i in 0..u.row_count() {
+            self.put_row(w, u.first - 1 + i, screen);
+        }
+    }
 }

@@ -1,12 +1,14 @@
-// A writer holds the lent buffer and its fill mark, and hands both to the plain functions on the slice and the index; `write_screen`, with a
-// plain buffer, serves every caller.
+// A writer holds the lent buffer and its fill mark. Each step fills it further, and leaves the reference as it is, which ties the buffer to the
+// writer; `write_screen`, with a plain buffer, serves every caller.
 ghost use Rattle.std.specs.Prelude.{◌≡◌, ◌++◌, ◌+◌, ◌≤◌, length};
+ghost use Rattle.gap.specs.Rules.Decimal.{decimal};
 ghost use Rattle.gap.specs.Wording.Written.{Wrote};
 ghost use Rattle.window.specs.Rules.Sequences.{sent_spot, sent_rows};
 ghost use Rattle.window.specs.Wording.Writing.{RowsIn, filled};
 
 use crate::sender::Update;
-use crate::sequences::{put_rows, put_spot};
+use gap::decimals::put_decimal;
+use gap::writers::put;
 
 // The lent buffer, and how far it is filled.
 #[derive(Drop)]
@@ -23,24 +25,28 @@ impl<'a> Writer<'a> {
         Writer { out, at: 0 }
     }
 
-    // The named rows go behind what the writer holds. It holds the same reference afterwards, which ties the buffer to the writer.
-    fn with_rows(&mut self, w: usize, u: Update, screen: &[u8])
-        requires rows_in { RowsIn w u.first u.last screen.now }
-        requires screen_in_bounds { self.old.at + length (sent_rows w u.first u.last screen.now) ≤ length self.old.out.now }
-        ensures { self.new ≡ filled self.old (sent_rows w u.first u.last screen.now) }
+    // A run goes behind what the writer holds, or a number's digits.
+    pub fn put(&mut self, run: &[u8])
+        requires { self.old.at + length run.now ≤ length self.old.out.now }
+        ensures { self.new ≡ filled self.old run.now }
     {
         let at = self.at;
-        self.at = put_rows(w, u, screen, &mut *self.out, at);
+        self.at = put(run, &mut *self.out, at);
     }
 
-    // A spot goes behind what the writer holds. It is the last that is written, so the mark is handed back alone: it is the count.
-    // (`self.exit.0` is the buffer as it is left.)
-    fn with_spot(self, row: usize, column: usize) -> usize
-        requires { self.at + length (sent_spot row column) ≤ length self.out.now }
-        ensures { Wrote self.entry.at (sent_spot row column) self.entry.out.now result self.exit.0.now }
+    pub fn put_number(&mut self, n: usize)
+        requires { self.old.at + length (decimal n) ≤ length self.old.out.now }
+        ensures { self.new ≡ filled self.old (decimal n) }
     {
         let at = self.at;
-        put_spot(row, column, &mut *self.out, at)
+        self.at = put_decimal(n, &mut *self.out, at);
+    }
+
+    // How much the writer holds. (`self.exit.0` is the buffer as it is left.)
+    fn count(self) -> usize
+        ensures { (result ≡ self.entry.at) × (self.exit.0.now ≡ self.entry.out.now) }
+    {
+        self.at
     }
 }
 
@@ -51,6 +57,7 @@ pub fn write_screen(w: usize, u: Update, screen: &[u8], out: &mut [u8]) -> usize
     ensures { Wrote 0 (sent_rows w u.first u.last screen.now ++ sent_spot u.row u.column) out.old result out.new }
 {
     let mut writer = Writer::at_front(out);
-    writer.with_rows(w, u, screen);
-    writer.with_spot(u.row, u.column)
+    writer.put_rows(w, u, screen);
+    writer.put_spot(u.row, u.column);
+    writer.count()
 }

@@ -12,15 +12,15 @@ use borrow.Rule.Slice.PartMut.{mid_of}
 use borrow.Author.Tests.{eqb-true, eqb-false}
 use Rattle.gap.specs.Rules.Sequence.{part, counted}
 use Rattle.gap.specs.Rules.Decimal.{decimal}
-use Rattle.gap.specs.Wording.Written.{Wrote}
 use Rattle.gap.proofs.Laws.Tests.{decided, cond-true, cond-false}
 use Rattle.gap.proofs.Laws.Sequence.{length_part}
 use Rattle.gap.proofs.Laws.Decimals.{decimal-within, decimal-short}
-use Rattle.gap.proofs.Laws.Writers.{wrote_none, then, wrote-length}
 use Rattle.window.specs.Rules.Window.{joined}
 use Rattle.window.specs.Rules.Rows.{screen_row}
 use Rattle.window.specs.Rules.Sequences.{sent_spot, sent_row, row_count, sent_rows, sent_column, sent_screen}
-use Rattle.window.specs.Wording.Writing.{RowsIn, rows_size, sent_size}
+use Rattle.window.specs.declared.writer.Writer.{Writer}
+use Rattle.window.specs.Wording.Writing.{RowsIn, filled, rows_size, sent_size}
+use Rattle.window.proofs.Laws.Writer.{Filled, filled-none, room-behind, filled-more}
 
 -- ---- A spot
 
@@ -60,19 +60,14 @@ module _ (W above : ℕ) (screen : List ℕ) (inside : above * W + W ≤ length 
   unfolding part
   row-lent = let size : above * W + W - above * W ≡ W = omega arith in rw (row-cells, size)
 
-  -- A room for the row has room for its spot, and then for its cells.
+  -- A room for the row has room for its spot.
   pub spot-room : (at : ℕ) {room : ℕ} → at + length (sent_row W screen (above + 1)) ≤ room → at + length (sent_spot (above + 1) 1) ≤ room
   spot-room at room = omega (arith, length-sent)
 
-  pub cells-room : {at cells_at : ℕ} {old mid : List ℕ} → at + length (sent_row W screen (above + 1)) ≤ length old
-      → Wrote at (sent_spot (above + 1) 1) old cells_at mid → cells_at + length (mid_of (above * W) (above * W + W - above * W) screen) ≤ length mid
-  cells-room room spot_is = rw row-lent (omega (arith, row-length, length-sent, spot_is.place, wrote-length spot_is))
-
   -- The spot and then the cells are the row.
-  pub row_wrote : {at cells_at next : ℕ} {old mid new : List ℕ} → Wrote at (sent_spot (above + 1) 1) old cells_at mid
-      → Wrote cells_at (mid_of (above * W) (above * W + W - above * W) screen) mid next new → Wrote at (sent_row W screen (above + 1)) old next new
+  pub row-whole : sent_spot (above + 1) 1 ++ mid_of (above * W) (above * W + W - above * W) screen ≡ sent_row W screen (above + 1)
   unfolding sent_row
-  row_wrote spot_is cells_are = then spot_is (rw row-lent at cells_are)
+  row-whole = ap (λ cells. sent_spot (above + 1) 1 ++ cells) row-lent
 
 -- ---- How many rows
 
@@ -127,31 +122,32 @@ module _ (row : ℕ → List ℕ) where
 abbrev pub rows_from : ℕ → List ℕ → ℕ → ℕ → List ℕ
 rows_from W screen n k = joined (map (sent_row W screen) (counted n k))
 
--- Of the named rows, i are written into a store that was `old` and now is `new`; the next one goes to `next`.
-pub record RowsSent (W first rows : ℕ) (screen old : List ℕ) (at i next : ℕ) (new : List ℕ) : Type 0 where
+-- Of the named rows, i are written by a writer.
+pub record RowsSent (W first rows : ℕ) (screen : List ℕ) (old : Writer) (i : ℕ) (new : Writer) : Type 0 where
   pub within : i ≤ rows
-  pub wrote : Wrote at (rows_from W screen i first) old next new
+  pub wrote : Filled old (rows_from W screen i first) new
 
-pub sent-none : {W first rows at : ℕ} {screen old : List ℕ} → at ≤ length old → RowsSent W first rows screen old at 0 at old
+pub sent-none : {W first rows : ℕ} {screen : List ℕ} (t : Writer) → t.at ≤ length t.out.now → RowsSent W first rows screen t 0 t
 unfolding joined counted
-sent-none {W} {first} {rows} {at} {screen} {old} within = record { within = omega arith; wrote = wrote_none at old within }
+sent-none t within = record { within = omega arith; wrote = filled-none t within }
 
-module _ {W first rows at i next : ℕ} {screen old new : List ℕ} (sent : RowsSent W first rows screen old at i next new) where
-  pub sent-room : i < rows → at + length (rows_from W screen rows first) ≤ length old
-      → next + length (sent_row W screen (first + i)) ≤ length new
-  sent-room more room =
+module _ {W first rows i : ℕ} {screen : List ℕ} {old new : Writer} (sent : RowsSent W first rows screen old i new) (more : i < rows)
+    (room : old.at + length (rows_from W screen rows first) ≤ length old.out.now) where
+  next-room : old.at + length (rows_from W screen i first ++ sent_row W screen (first + i)) ≤ length old.out.now
+  next-room =
       let longer = joined-longer (sent_row W screen) (suc i) rows first more in
-      let last : length (rows_from W screen (suc i) first) ≡ length (rows_from W screen i first) + length (sent_row W screen (first + i)) =
-      rw (joined-last (sent_row W screen) i first) (length-append (rows_from W screen i first) (sent_row W screen (first + i)))
-      in omega (arith, sent.wrote.place, wrote-length sent.wrote)
+      rw (← joined-last (sent_row W screen) i first) (omega (arith, longer, room))
 
-  pub sent-more : {after : ℕ} {newer : List ℕ} → i < rows → Wrote next (sent_row W screen (first + i)) new after newer
-      → RowsSent W first rows screen old at (i + 1) after newer
-  sent-more more row =
-      record { within = omega arith; wrote = rw (add-one, joined-last (sent_row W screen) i first) (then sent.wrote row) }
+  pub sent-room : new.at + length (sent_row W screen (first + i)) ≤ length new.out.now
+  sent-room = room-behind sent.wrote (sent_row W screen (first + i)) next-room
 
-  pub sent-all : rows ≤ i → Wrote at (rows_from W screen rows first) old next new
-  sent-all done = let all : i ≡ rows = omega (arith, sent.within) in rw all at sent.wrote
+  pub sent-more : {newer : Writer} → newer ≡ filled new (sent_row W screen (first + i)) → RowsSent W first rows screen old (i + 1) newer
+  sent-more row =
+      record { within = omega arith; wrote = rw (add-one, joined-last (sent_row W screen) i first) (filled-more sent.wrote (sent_row W screen (first + i)) next-room row) }
+
+pub sent-all : {W first rows i : ℕ} {screen : List ℕ} {old new : Writer} → RowsSent W first rows screen old i new → rows ≤ i
+    → new ≡ filled old (rows_from W screen rows first)
+sent-all {rows = rows} {i = i} sent done = let all : i ≡ rows = omega (arith, sent.within) in rw all at sent.wrote.same
 
 -- ---- How long they are
 

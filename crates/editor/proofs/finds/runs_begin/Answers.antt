@@ -8,16 +8,13 @@ use Rattle.editor.proofs.finds.runs_begin.Goals as goal
 pub returns-then-pattern-cut : goal.returns-then-pattern-cut
 returns-then-pattern-cut c = c.run_begins.ensures ∙ begins-front _ _ _ c.if-pattern-cut.true
 
-pub slice_bounds-same_run-end : goal.slice_bounds-same_run-end
-slice_bounds-same_run-end c = sym (length-take-le _ _ (omega arith))
+pub slice_bounds-same_bytes-end : goal.slice_bounds-same_bytes-end
+slice_bounds-same_bytes-end c = sym (length-take-le _ _ (omega arith))
 
-pub same_run-requires : goal.same_run-requires
-same_run-requires c = length-take-le _ _ (omega arith)
-
-pub returns-then-same_run : goal.returns-then-same_run
-returns-then-same_run c =
-    runs_same _ c.args.x.now c.args.y.now c.if-pattern-cut.false c.same_run.ensures c.if-same_run.true
-    c.run_begins-then-same_run.ensures
+pub returns-then-same_bytes : goal.returns-then-same_bytes
+returns-then-same_bytes c =
+    runs_same _ c.args.x.now c.args.y.now c.if-pattern-cut.false c.same_bytes.ensures c.if-same_bytes.true
+    c.run_begins-then-same_bytes.ensures
 
 pub returns : goal.returns
-returns c = runs-differ _ c.args.x.now c.args.y.now c.if-pattern-cut.false c.same_run.ensures c.if-same_run.false
+returns c = runs-differ _ c.args.x.now c.args.y.now c.if-pattern-cut.false c.same_bytes.ensures c.if-same_bytes.false
