@@ -1,4 +1,5 @@
-// NEWLINE and TAB on one side, of whose text no line is longer than a limit. The recall text stays, so that it is not lent.
+// A byte with spaces behind it, as NEWLINE and TAB put it in, on one side, of whose text no line is longer than a limit. The recall text
+// stays, so that it is not lent.
 ghost use Rattle.std.specs.Prelude.{◌≡◌, true, ◌∷◌};
 ghost use Rattle.gap.specs.Rules.Doc.{content};
 ghost use Rattle.gap.specs.Rules.Indents.{spaces};
@@ -16,8 +17,8 @@ use gap::lines::since_newline;
 use gap::texts::insert_spaced;
 use gap::views::View;
 
-// A byte and k spaces behind it go in, all of them or none.
-fn spaced_side(
+// A byte and k spaces behind it go in, all of them or none. Whether they fit is known before anything is written.
+pub fn spaced_side(
     limit: usize,
     b: u8,
     k: usize,
@@ -28,21 +29,17 @@ fn spaced_side(
     requires text_value { lines_fit limit (content (ungap n.l n.r text.old)) ≡ true }
     ensures { EditsText limit (side_reply n result) n (inserted_run (b ∷ spaces k)) text.old text.new }
 {
-    let l = n.l;
-    let r = n.r;
-    if text.len() - (l + r) <= k {
+    if text.len() - (n.l + n.r) <= k {
         return Err(Refusal::Full);
     }
-    if !run_fits(limit, b, k, View::of(text, l, r)) {
+    if !run_fits(limit, b, k, View::of(text, n.l, n.r)) {
         return Err(Refusal::Line);
     }
-    insert_spaced(text, l, r, b, k);
+    insert_spaced(text, n.l, n.r, b, k);
     let run = k + 1;
-    let mut m = n;
-    m.l = l + run;
     Ok(SideDone {
         report: went(run, 0),
-        sizes: m,
+        sizes: Sizes { l: n.l + run, ..n },
     })
 }
 
@@ -52,9 +49,8 @@ pub fn newline_side(limit: usize, n: Sizes, text: &mut [u8]) -> Result<SideDone,
     requires text_value { lines_fit limit (content (ungap n.l n.r text.old)) ≡ true }
     ensures { EditsText limit (side_reply n result) n newlined text.old text.new }
 {
-    let l = n.l;
-    let k = line_indent(&text[..l]);
-    spaced_side(limit, 10, k, n, text)
+    let k = line_indent(&text[..n.l]);
+    spaced_side(limit, b'\n', k, n, text)
 }
 
 // TAB: the first space, and the others up to the column.
@@ -63,7 +59,6 @@ pub fn tab_side(limit: usize, n: Sizes, text: &mut [u8]) -> Result<SideDone, Ref
     requires text_value { lines_fit limit (content (ungap n.l n.r text.old)) ≡ true }
     ensures { EditsText limit (side_reply n result) n tabbed text.old text.new }
 {
-    let l = n.l;
-    let column = since_newline(0, &text[..l]);
-    spaced_side(limit, 32, 7 - column % 8, n, text)
+    let column = since_newline(0, &text[..n.l]);
+    spaced_side(limit, b' ', 7 - column % 8, n, text)
 }

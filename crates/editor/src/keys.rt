@@ -18,7 +18,7 @@ use gap::texts::{drop_right, hand_over, place_pair};
 
 // ---- Which keys are sound
 
-// All function keys but two.
+// All function keys but two. Written out as the rules' table has them.
 pub fn sound_function(action: Action, way: Direction, place: Place) -> bool
     ensures { result ≡ sound_function action way place }
 {
@@ -94,7 +94,7 @@ fn edit_key(
     }
 }
 
-// A sound key on a session, but for the mark.
+// A sound key on a session, but for the mark. Which step a key takes is said here once; a table of closures would have to lend all stores to each.
 fn act(
     n: Lengths,
     k: Key,

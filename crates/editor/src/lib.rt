@@ -74,7 +74,8 @@ pub enum Key {
     Tab,
 }
 
-// The keys that act on one side, the document's or the quotation's.
+// The keys that act on one side, the document's or the quotation's. `Key` has the same five among its own, flat, as theorems and hosts speak of
+// them; a closure for the step would say less than a name.
 #[derive(Clone, Copy)]
 pub enum Edit {
     Insert(u8),
@@ -115,7 +116,8 @@ pub struct Lengths {
     pub mark: Option<usize>,
 }
 
-// What a key reports: its steps, the newlines that these pass, and its bell.
+// What a key reports: its steps, the newlines that these pass, and its bell. The bell is no Option around the others: a key may have nothing to
+// say and not ring.
 #[derive(Clone, Copy)]
 pub struct Report {
     pub steps: usize,
@@ -131,7 +133,8 @@ pub struct Exchange {
     pub come: usize,
 }
 
-// What a key on one side leaves when it is done: its report, and the sizes now. Refused, it moves nothing.
+// What a key on one side leaves when it is done: its report, and the sizes now. Refused, it moves nothing. (This and `EditorDone` stay two: a
+// field of a type parameter would have to be called alike for sizes and lengths.)
 #[derive(Clone, Copy)]
 pub struct SideDone {
     pub report: Report,

@@ -41,7 +41,7 @@ fn with_lines(found: Option<usize>, way: Direction, d: View<'_>) -> Option<Passa
     })
 }
 
-// To a place.
+// To a place. This and the next hand different questions to `with_lines`, which is what they share.
 pub fn place_passage(place: Place, way: Direction, d: View<'_>) -> Option<Passage>
     ensures { result ≡ passage_to way (is_at place way) (seen d.entry) }
 {

@@ -34,19 +34,20 @@ pub fn line_ending_at(t: &[u8], p: usize) -> bool
 }
 
 // What a byte is to the word test.
-fn neighbour(b: u8) -> Neighbour
-    ensures { result ≡ neighbour_of b }
-{
-    if b == 32 {
-        return Neighbour::Space;
+impl From<u8> for Neighbour {
+    ghost from_gives = { λ b n. n ≡ neighbour_of b };
+
+    fn from(b: u8) -> Neighbour {
+        match b {
+            b' ' => Neighbour::Space,
+            b'\n' => Neighbour::Newline,
+            _ => Neighbour::Other,
+        }
     }
-    if b == 10 {
-        return Neighbour::Newline;
-    }
-    Neighbour::Other
 }
 
-// What stands left of place p of a text.
+// What stands left of place p of a text. Left and right differ in where the text ends and in the byte, so this and the next stay two, as do
+// the two tests of lines above.
 fn left_of(t: &[u8], p: usize) -> Neighbour
     requires { p ≤ length t.now }
     ensures { result ≡ left_of (record { l = take p t.now; r = drop p t.now }) }
@@ -54,7 +55,7 @@ fn left_of(t: &[u8], p: usize) -> Neighbour
     if p < 1 {
         return Neighbour::Nothing;
     }
-    neighbour(t[p - 1])
+    Neighbour::from(t[p - 1])
 }
 
 // What stands right of it.
@@ -65,11 +66,11 @@ fn right_of(t: &[u8], p: usize) -> Neighbour
     if t.len() <= p {
         return Neighbour::Nothing;
     }
-    neighbour(t[p])
+    Neighbour::from(t[p])
 }
 
 // Place p of a text is a word place: one decision for each pair. The right side is asked for where the left one is known, so that inside a
-// word, where no place is one, a single byte is read.
+// word, where no place is one, a single byte is read. All sixteen are written out, as the rules' table has them, so that each can be found.
 #[tactic(auto, using(crate::proofs::Laws::PlaceScans::word_known))]
 pub fn word_at(t: &[u8], p: usize) -> bool
     requires { p ≤ length t.now }
@@ -103,7 +104,7 @@ pub fn word_at(t: &[u8], p: usize) -> bool
     }
 }
 
-// Place p of a text is such a place, for the direction.
+// Place p of a text is such a place, for the direction. A kind is data that a key brings, and not a closure: this match is its one meaning.
 #[tactic(auto, unfolding(crate::specs::Rules::Places::is_at))]
 pub fn stands(place: Place, way: Direction, t: &[u8], p: usize) -> bool
     requires { p ≤ length t.now }
@@ -121,7 +122,8 @@ pub fn stands(place: Place, way: Direction, t: &[u8], p: usize) -> bool
     }
 }
 
-// The distance over the text that lies in the direction, byte by byte as far as the place.
+// The distance over the text that lies in the direction, byte by byte as far as the place. `find` over the range would have its closure say of
+// each number, in a clause of its own, that it lies in the range; so do the two loops of finds.rt.
 fn scan(place: Place, way: Direction, t: &[u8]) -> Option<usize>
     ensures { (other : List ℕ) → result ≡ distance way (is_at place way) (facing way t.now other) }
 {

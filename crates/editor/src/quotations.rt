@@ -10,11 +10,12 @@ use crate::records::{QUIET, cleared};
 use crate::refusals::Refusal;
 use crate::sides::on_side;
 use crate::{Edit, EditorDone, Lengths, Mode, QUARTER, SideDone, Sizes};
-use gap::runs::{copy_at, copy_front, vacate};
+use gap::runs::{clear, vacate};
 use gap::texts::hand_over;
+use gap::views::View;
 
-// The quotation's quarter is lent as it stands, and its recall text goes through an array of its own, since two parts of one store
-// cannot be lent at once. No line can be longer than the quarter, so that this is no limit of lines.
+// The quotation's text and its recall text are lent as they stand. No line can be longer than the quarter, so that this limits none.
+#[tactic(auto, unfolding(crate::specs::Rules::Bytes::quarter))]
 pub fn edit_quotation(e: Edit, n: Sizes, side: &mut [u8]) -> Result<SideDone, Refusal>
     requires side_len { length side.old ≡ 4 * quarter }
     requires on_side { OnSide quarter n (quarter_of quarter 0 side.old) (quarter_of quarter 1 side.old) }
@@ -22,11 +23,8 @@ pub fn edit_quotation(e: Edit, n: Sizes, side: &mut [u8]) -> Result<SideDone, Re
         (quarter_of quarter 0 side.new) (quarter_of quarter 1 side.new) }
     ensures side_unchanged { drop (2 * quarter) side.new ≡ drop (2 * quarter) side.old }
 {
-    let mut own = [0u8; QUARTER];
-    copy_front(&mut own, &side[QUARTER..2 * QUARTER]);
-    let t = on_side(QUARTER, e, n, &mut side[..QUARTER], &mut own);
-    copy_at(side, QUARTER, &own);
-    t
+    let (text, others) = side.split_at_mut(QUARTER);
+    on_side(QUARTER, e, n, text, &mut others[..QUARTER])
 }
 
 fn other_mode(mode: Mode) -> Mode
@@ -39,6 +37,7 @@ fn other_mode(mode: Mode) -> Mode
 }
 
 // QUOTE: the other mode, with an empty quotation.
+#[tactic(auto, unfolding(crate::specs::Rules::Bytes::quarter))]
 pub fn quote_key(n: Lengths, side: &mut [u8]) -> EditorDone
     requires { length side.old ≡ 4 * quarter }
     ensures { EditsQuotation (editor_done result) n (λ T p. bounded T quarter (quoted p)) side.old side.new }
@@ -50,19 +49,19 @@ pub fn quote_key(n: Lengths, side: &mut [u8]) -> EditorDone
     }
 }
 
-// The quotation's text goes over to the quarter at `at` as a pair, and both of its own quarters become free. The text is copied out,
-// since its quarter and the other cannot be lent at once.
+// The quotation's text goes over to the quarter at `at` as a pair, and both of its own quarters become free.
+#[tactic(auto, unfolding(crate::specs::Rules::Bytes::quarter))]
 fn give_quotation(l: usize, r: usize, at: usize, side: &mut [u8])
     requires side_len { (length side.old ≡ 4 * quarter) × (l + r ≤ quarter) }
     requires quarter_bound { (2 * quarter ≤ at) × (at + quarter ≤ 4 * quarter) }
     ensures { side.new ≡ patch 0 (zeros (2 * quarter))
         (patch at (paired quarter (ungap l r (quarter_of quarter 0 side.old))) side.old) }
 {
-    let mut own = [0u8; QUARTER];
-    let end = at + QUARTER;
-    copy_front(&mut own, &side[..QUARTER]);
-    hand_over(&own, l, r, &mut side[at..end]);
-    vacate(side, 0, 2 * QUARTER);
+    let (own, others) = side.split_at_mut(2 * QUARTER);
+    let from = at - 2 * QUARTER;
+    let to = from + QUARTER;
+    hand_over(View::of(&own[..QUARTER], l, r), &mut others[from..to]);
+    clear(own);
 }
 
 // In QUOTED the quotation is given to the quarter at `at`; in MAIN there is none.

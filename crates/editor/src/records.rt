@@ -11,7 +11,7 @@ use gap::Direction;
 
 // ---- Reports
 
-// Nothing to say.
+// Nothing to say. A constant under the definitions' name, as are the next ones, where a `Default` would have none.
 pub const QUIET: Report = Report {
     steps: 0,
     lines: 0,
@@ -135,7 +135,7 @@ pub fn pattern_taken(n: Lengths) -> Lengths
     }
 }
 
-// The same with the replacement.
+// The same with the replacement: other lengths are set, so the two stay two.
 pub fn replacement_taken(n: Lengths) -> Lengths
     ensures { result ≡ replacement_taken n.mode n }
 {
@@ -187,7 +187,8 @@ fn held_in(n: Lengths, sizes: Sizes) -> Lengths
     }
 }
 
-// A key on the document with the held pair in the place of its recall text, as one of the whole layer, with this mark.
+// A key on the document with the held pair in the place of its recall text, as one of the whole layer, with this mark. What is put in is another
+// than in `lifted`, and that is all there is to either.
 pub fn lifted_held(n: Lengths, mark: Option<usize>, t: SideDone) -> EditorDone
     ensures { result ≡ record { report = t.report; lengths = held_in t.sizes (marked_at mark n) } }
 {

@@ -15,7 +15,7 @@ pub enum Refusal {
 }
 
 impl Refusal {
-    // The number that a host is told.
+    // The number that a host is told. A method, since `usize::from` would not say which number.
     pub fn number(self) -> usize
         ensures { result ≡ number self }
     {

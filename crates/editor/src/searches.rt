@@ -13,7 +13,7 @@ use crate::quotations::hand_quotation;
 use crate::records::{QUIET, RANG, lifted, pattern_taken, replacement_taken};
 use crate::refusals::Refusal;
 use crate::sides::move_side;
-use crate::{EditorDone, LONGEST_LINE, Lengths, Mode, QUARTER, SideDone};
+use crate::{EditorDone, LONGEST_LINE, Lengths, Mode, QUARTER, SideDone, Sizes};
 use gap::Direction;
 use gap::line_limits::runs_fit;
 use gap::runs::hold;
@@ -21,6 +21,7 @@ use gap::texts::{drop_right, place_pair};
 use gap::views::View;
 
 // A search with the stored pattern: to the nearest match, or the bell.
+#[tactic(auto, unfolding(crate::specs::Rules::Bytes::quarter))]
 fn search(way: Direction, n: Lengths, text: &mut [u8], side: &[u8]) -> EditorDone
     requires { Searchable n text.old side.now }
     ensures { EditsTexts (editor_done result) n (λ T p. done (searched way p)) text.old side.now text.new side.now }
@@ -38,6 +39,7 @@ fn search(way: Direction, n: Lengths, text: &mut [u8], side: &[u8]) -> EditorDon
 }
 
 // FIND and UPFIND: in QUOTED the quotation becomes the pattern first.
+#[tactic(auto, unfolding(crate::specs::Rules::Bytes::quarter))]
 pub fn find_key(way: Direction, n: Lengths, text: &mut [u8], side: &mut [u8]) -> EditorDone
     requires { Searchable n text.old side.old }
     ensures { EditsTexts (editor_done result) n (λ T p. bounded T quarter (found way p)) text.old side.old text.new side.new }
@@ -59,28 +61,27 @@ fn substitute(here: bool, n: Lengths, text: &mut [u8], recall: &mut [u8], side: 
             lengths: n,
         };
     }
-    let mut main = n.main;
-    let l = main.l;
-    let r = main.r;
-    let pl = n.pl;
-    let x = n.xl;
-    let y = n.xr;
-    let end = 2 * QUARTER + pl;
-    drop_right(text, l, r, pl);
-    place_pair(text, l, r - pl, &side[3 * QUARTER..4 * QUARTER], x, y);
+    let main = n.main;
+    let rest = main.r - n.pl;
+    let replacement = View::of_pair(&side[3 * QUARTER..4 * QUARTER], n.xl, n.xr);
+    let end = 2 * QUARTER + n.pl;
+    drop_right(text, main.l, main.r, n.pl);
+    place_pair(text, main.l, rest, replacement);
     hold(recall, &side[2 * QUARTER..end]);
-    main.l = l + x;
-    main.r = r - pl + y;
-    main.rl = 0;
-    main.rr = pl;
     let done = SideDone {
         report: QUIET,
-        sizes: main,
+        sizes: Sizes {
+            l: main.l + n.xl,
+            r: rest + n.xr,
+            rl: 0,
+            rr: n.pl,
+        },
     };
     lifted(Mode::Main, n, done)
 }
 
 // Where the pattern stands, the text with the replacement in its place fits: the pattern's room is given back first.
+#[tactic(auto, unfolding(crate::specs::Rules::Bytes::quarter))]
 fn exchange_fits(here: bool, size: usize, n: Lengths) -> bool
     requires r_bound { n.main.l + n.main.r ≤ size }
     requires pl_le_r { here ≡ true → n.pl ≤ n.main.r }
@@ -94,6 +95,7 @@ fn exchange_fits(here: bool, size: usize, n: Lengths) -> bool
 }
 
 // What REPLACE puts in: in MAIN the replacement, in QUOTED the quotation, which becomes the replacement.
+#[tactic(auto, unfolding(crate::specs::Rules::Bytes::quarter))]
 fn replacing<'a>(n: Lengths, side: &'a [u8]) -> View<'a>
     requires side_len { length side.now ≡ 4 * quarter }
     requires fits { (n.xl + n.xr ≤ quarter) × (n.quoted.l + n.quoted.r ≤ quarter) }

@@ -8,37 +8,24 @@ ghost use Rattle.editor.specs.declared.Action.TheVariants.{Move, Delete};
 ghost use Rattle.editor.specs.Rules.Keys.{inserted, carried, function, recalled};
 ghost use Rattle.editor.specs.Wording.Promise.{room_of, OnSide, EditsSide, EditsText, editing, side_reply, side_done};
 
-use crate::indents::{newline_side, tab_side};
+use crate::indents::{newline_side, spaced_side, tab_side};
 use crate::passages::place_passage;
 use crate::records::{QUIET, RANG, moved_by, went};
 use crate::refusals::Refusal;
-use crate::splices::{join_fits, pair_fits, run_fits};
+use crate::splices::{join_fits, pair_fits};
 use crate::{Action, Edit, Passage, Place, SideDone, Sizes};
 use gap::Direction;
-use gap::texts::{delete_left, delete_right, insert, move_left, move_right, place_pair};
+use gap::texts::{delete_left, delete_right, move_left, move_right, place_pair};
 use gap::views::View;
 
-// A byte goes in. Whether it fits is known before anything is written.
+// A byte goes in, with no spaces behind it, and is not reported as a step.
 pub fn insert_side(limit: usize, b: u8, n: Sizes, text: &mut [u8]) -> Result<SideDone, Refusal>
     requires gap { IsGap n.l n.r text.old }
     requires text_value { lines_fit limit (content (ungap n.l n.r text.old)) ≡ true }
     ensures { EditsText limit (side_reply n result) n (inserted b) text.old text.new }
 {
-    let l = n.l;
-    let r = n.r;
-    if text.len() <= l + r {
-        return Err(Refusal::Full);
-    }
-    if !run_fits(limit, b, 0, View::of(text, l, r)) {
-        return Err(Refusal::Line);
-    }
-    insert(text, l, r, b);
-    let mut m = n;
-    m.l = l + 1;
-    Ok(SideDone {
-        report: QUIET,
-        sizes: m,
-    })
+    let t = spaced_side(limit, b, 0, n, text)?;
+    Ok(SideDone { report: QUIET, ..t })
 }
 
 // The cursor of a gap store goes d bytes.
@@ -83,35 +70,36 @@ pub fn delete_side(
         text.new recall.new }
 {
     let d = passage.steps;
-    let lines = passage.lines;
-    let l = n.l;
-    let r = n.r;
-    let mut m = n;
+    let report = went(d, passage.lines);
     match way {
         Direction::Left => {
-            if !join_fits(limit, View::of(text, l - d, r)) {
+            if !join_fits(limit, View::of(text, n.l - d, n.r)) {
                 return Err(Refusal::Line);
             }
-            delete_left(text, l, r, d, recall);
-            m.l = l - d;
-            m.rl = d;
-            m.rr = 0;
+            delete_left(text, n.l, n.r, d, recall);
             Ok(SideDone {
-                report: went(d, lines),
-                sizes: m,
+                report,
+                sizes: Sizes {
+                    l: n.l - d,
+                    r: n.r,
+                    rl: d,
+                    rr: 0,
+                },
             })
         }
         Direction::Right => {
-            if !join_fits(limit, View::of(text, l, r - d)) {
+            if !join_fits(limit, View::of(text, n.l, n.r - d)) {
                 return Err(Refusal::Line);
             }
-            delete_right(text, l, r, d, recall);
-            m.r = r - d;
-            m.rl = 0;
-            m.rr = d;
+            delete_right(text, n.l, n.r, d, recall);
             Ok(SideDone {
-                report: went(d, lines),
-                sizes: m,
+                report,
+                sizes: Sizes {
+                    l: n.l,
+                    r: n.r - d,
+                    rl: 0,
+                    rr: d,
+                },
             })
         }
     }
@@ -171,23 +159,21 @@ pub fn recall_side(
     requires { OnSide limit n text.old recall.now }
     ensures { EditsSide limit (side_reply n result) n recalled text.old recall.now text.new recall.now }
 {
-    let l = n.l;
-    let r = n.r;
-    let rl = n.rl;
-    let rr = n.rr;
-    if text.len() - (l + r) < rl + rr {
+    if text.len() - (n.l + n.r) < n.rl + n.rr {
         return Err(Refusal::Full);
     }
-    if !pair_fits(limit, View::of(text, l, r), View::of_pair(recall, rl, rr)) {
+    let pair = View::of_pair(recall, n.rl, n.rr);
+    if !pair_fits(limit, View::of(text, n.l, n.r), pair) {
         return Err(Refusal::Line);
     }
-    place_pair(text, l, r, recall, rl, rr);
-    let mut m = n;
-    m.l = l + rl;
-    m.r = r + rr;
+    place_pair(text, n.l, n.r, pair);
     Ok(SideDone {
         report: QUIET,
-        sizes: m,
+        sizes: Sizes {
+            l: n.l + n.rl,
+            r: n.r + n.rr,
+            ..n
+        },
     })
 }
 

@@ -38,7 +38,7 @@ fn value_of(s: &[u8]) -> usize
     n
 }
 
-// The number that these bytes write, all of them, in at most so many digits.
+// The number that these bytes write, all of them, in at most so many digits. `parse` would take a sign and zeros in front.
 pub fn number_of(most: usize, s: &[u8]) -> Option<usize>
     requires { most ≤ word_digits }
     ensures { result ≡ number_of most s.now }
@@ -70,7 +70,7 @@ pub fn put_decimal(n: usize, out: &mut [u8], at: usize) -> usize
     put_digit(n % 10, out, last)
 }
 
-// How many digits n has.
+// How many digits n has: asked before one of them is written, so it stands beside `put_decimal` with the same steps.
 pub fn decimal_size(n: usize) -> usize
     ensures { result ≡ length (decimal n) }
 {

@@ -66,7 +66,8 @@ fn front_without(s: &[u8], at: usize) -> usize
     i
 }
 
-// Where the first newline of a run stands.
+// Where the first newline of a run stands. `end_at` rests on this and `since_newline` on the next: the one answers a place, the other a
+// distance that may go on from bytes before the run.
 fn first_newline(s: &[u8]) -> Option<usize>
     ensures inside { IfSome result (λ i. i < length s.now) }
     ensures newline { IfSome result (λ i. slice_index s.now i ≡ newline) }

@@ -5,7 +5,7 @@ ghost use Rattle.gap.specs.Rules.Nearest.{nearest};
 ghost use Rattle.gap.specs.Rules.Layout.{printable, allowed, free, sound_gap, sound_pair};
 ghost use Rattle.gap.specs.Wording.Closures.{Says};
 
-// A byte that is printed.
+// A byte that is printed. By `&` and not as a range: `all_pass` is vectorised over tests without a branch.
 fn is_printable(b: u8) -> bool
     ensures { result ≡ printable b }
 {

@@ -4,9 +4,11 @@ ghost use Rattle.std.specs.Prelude.{◌≡◌, [], ◌∷◌, ◌+◌, ◌≤◌
 ghost use Rattle.gap.specs.declared.Direction.TheVariants.{Left, Right};
 ghost use Rattle.gap.specs.Rules.Doc.{empty, move, delete, times, removed, splice};
 ghost use Rattle.gap.specs.Rules.Indents.{spaces};
-ghost use Rattle.gap.specs.Rules.Layout.{gapped, paired, ungap, unpair, IsGap};
+ghost use Rattle.gap.specs.Rules.Layout.{gapped, paired, ungap, IsGap};
+ghost use Rattle.gap.specs.Wording.Views.{seen};
 
 use crate::runs::{clear_from, copy_at, fill_at, hold, shift, take_out, vacate};
+use crate::views::View;
 
 // The cursor goes d bytes left: they cross the gap.
 pub fn move_left(s: &mut [u8], l: usize, r: usize, d: usize)
@@ -26,15 +28,6 @@ pub fn move_right(s: &mut [u8], l: usize, r: usize, d: usize)
 {
     let back = s.len() - r;
     shift(s, back, l, d);
-}
-
-// A byte goes in left of the cursor.
-pub fn insert(s: &mut [u8], l: usize, r: usize, b: u8)
-    requires gap { IsGap l r s.old }
-    requires r_in_bounds { l + r < length s.old }
-    ensures { s.new ≡ gapped (length s.old) (splice 0 0 (record { l = b ∷ []; r = [] }) (ungap l r s.old)) }
-{
-    s[l] = b;
 }
 
 // A byte and n spaces behind it go in left of the cursor.
@@ -68,16 +61,15 @@ pub fn delete_right(s: &mut [u8], l: usize, r: usize, d: usize, pair: &mut [u8])
     take_out(s, back, d, pair);
 }
 
-// Both halves of a pair, x and y bytes long, go in around the cursor.
-pub fn place_pair(s: &mut [u8], l: usize, r: usize, pair: &[u8], x: usize, y: usize)
+// Both halves of a pair go in around the cursor.
+pub fn place_pair(s: &mut [u8], l: usize, r: usize, pair: View<'_>)
     requires gap { IsGap l r s.old }
-    requires y_in_bounds { (l + r + (x + y) ≤ length s.old) × (x + y ≤ length pair.now) }
-    ensures { s.new ≡ gapped (length s.old) (splice 0 0 (unpair x y pair.now) (ungap l r s.old)) }
+    requires in_bounds { l + r + (length pair.l.now + length pair.r.now) ≤ length s.old }
+    ensures { s.new ≡ gapped (length s.old) (splice 0 0 (seen pair.entry) (ungap l r s.old)) }
 {
-    let end = x + y;
-    let at = s.len() - r - y;
-    copy_at(s, l, &pair[..x]);
-    copy_at(s, at, &pair[x..end]);
+    let at = s.len() - r - pair.r.len();
+    copy_at(s, l, pair.l);
+    copy_at(s, at, pair.r);
 }
 
 // The first d bytes right of the cursor are dropped.
@@ -90,14 +82,13 @@ pub fn drop_right(s: &mut [u8], l: usize, r: usize, d: usize)
     vacate(s, at, d);
 }
 
-// A gap store's two texts become all that a pair store holds.
-pub fn hand_over(s: &[u8], l: usize, r: usize, pair: &mut [u8])
-    requires { (l + r ≤ length s.now) × (l + r ≤ length pair.old) }
-    ensures { pair.new ≡ paired (length pair.old) (ungap l r s.now) }
+// A document becomes all that a pair store holds.
+pub fn hand_over(d: View<'_>, pair: &mut [u8])
+    requires { length d.l.now + length d.r.now ≤ length pair.old }
+    ensures { pair.new ≡ paired (length pair.old) (seen d.entry) }
 {
-    let back = s.len() - r;
-    hold(pair, &s[..l]);
-    copy_at(pair, l, &s[back..]);
+    hold(pair, d.l);
+    copy_at(pair, d.l.len(), d.r);
 }
 
 // The first n bytes become the text right of the cursor, with nothing left of it; whatever stood behind them is cleared.

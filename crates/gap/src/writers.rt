@@ -1,4 +1,5 @@
-// Runs of bytes written one behind the other into a lent store.
+// Runs of bytes written one behind the other into a lent store. Not by `Display` or `write!`: what is promised is which byte stands where in the
+// store, and that is as long as it was lent.
 ghost use Rattle.std.specs.Prelude.{◌+◌, ◌≤◌, length};
 ghost use Rattle.gap.specs.Wording.Written.{Wrote};
 

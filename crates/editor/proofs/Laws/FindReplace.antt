@@ -1,7 +1,7 @@
 -- The search and the substitution on record and stores: what the code does on the document's side is what the plain editor says.
 use Rattle.std.proofs.Common.{Option}
 use mathlib.Core.Path.{◌≡◌, refl, sym, ap, ◌∙◌}
-use mathlib.Core.Bool.{true, false}
+use mathlib.Core.Bool.{Bool, true, false}
 use mathlib.Core.List.{List, ◌++◌}
 use Prim.Native.Nat.{ℕ, ◌+◌, ◌-◌, ◌*◌, ◌≤◌}
 use native.Mathlib.Nat.{zero-add}
@@ -25,8 +25,8 @@ use Rattle.editor.specs.Rules.Plain.{Side, Plain, quiet, rang, Did, reporting, w
 use Rattle.editor.specs.Rules.Passages.{passage_to}
 use Rattle.editor.specs.Rules.LongLines.{longest_line, readable}
 use Rattle.editor.specs.Rules.Keys.{carried, with_side, matches, searched, exchanged, substituted, fits, bounded}
-use Rattle.editor.specs.Rules.Bytes.{Stores, sizes_of, plain_of, edited_to, SoundTexts}
-use Rattle.editor.specs.Wording.Promise.{Sound, stores, done_reply, written, EditsSide, reply_of}
+use Rattle.editor.specs.Rules.Bytes.{Stores, quarter, sizes_of, plain_of, edited_to, SoundTexts}
+use Rattle.editor.specs.Wording.Promise.{Sound, stores, done_reply, written, EditsSide, reply_of, SubstitutesUnheld}
 use Rattle.editor.proofs.Laws.States.{sound-fits, searched-sound}
 use Rattle.editor.proofs.Laws.Outcomes.{bounded-done}
 use Rattle.editor.proofs.Laws.SideEdits.{landed, not-did}
@@ -199,3 +199,8 @@ module _ (Q : ℕ) (n : Lengths) (b : Stores) (sound : Sound Q n b) where
         main-done (reporting quiet (exchanged p)) (substituted p) exchanged-as room lines _ reply text recall lifted
         (landed longest_line n.main b.text b.recall (reporting quiet (exchanged p)) answer said exchanged-fits exchanged-lines exchanged-sizes
         (e ∙ replacement-placed dropped less) (f ∙ pattern-recalled))
+
+-- What is known before a substitution says so much where the pattern stands.
+pub exchange-known : {here : Bool} {n : Lengths} {text recall side : List ℕ} → SubstitutesUnheld here n text recall side → here ≡ true
+    → Exchangeable n (length text)
+exchange-known asked here = exchangeable quarter _ _ asked.1 (sym asked.2.known ∙ here) asked.2.room asked.2.lines

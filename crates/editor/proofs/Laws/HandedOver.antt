@@ -6,14 +6,14 @@ use mathlib.Core.List.{List, [], ◌++◌, append_assoc, append-nil}
 use Prim.Native.Nat.{ℕ, ◌+◌, ◌-◌, ◌*◌, ◌≤◌}
 use native.Mathlib.Nat.{zero-mul}
 use native.Mathlib.Omega.{arith}
-use lib.ListN.{length, take, length-append}
-use lib.Seq.{length-take-le}
+use lib.ListN.{length, take, drop, length-append, length-drop, take-append-drop}
+use lib.Seq.{length-take-le, take-take}
 use Rattle.gap.specs.Rules.Sequence.{part, patch, zeros}
 use Rattle.gap.specs.Rules.Doc.{Doc, empty, content}
 use Rattle.gap.specs.Rules.Layout.{gapped, paired, ungap}
 use borrow.Rule.Slice.PartMut.{mid_of, put_mid}
 use Rattle.gap.proofs.Laws.Sequence.{length_part, length-zeros}
-use Rattle.gap.proofs.Laws.Runs.{patch-middle, part-back, part-lent}
+use Rattle.gap.proofs.Laws.Runs.{patch-middle}
 use Rattle.gap.proofs.Laws.Layout.{length-gapped, length-paired}
 use Rattle.editor.specs.Words.{Direction, Mode, Main, Quoted, Lengths}
 use Rattle.editor.specs.Rules.Plain.{Plain, Did, done}
@@ -21,26 +21,11 @@ use Rattle.editor.specs.Rules.LongLines.{longest_line, readable}
 use Rattle.editor.specs.Rules.Keys.{with_pattern, searched, found, with_replacement, substituted, replaced, fits, bounded}
 use Rattle.editor.specs.Rules.Bytes.{Stores, Edited, quarter_of, alone, lengths_of, stores_of, plain_of, edited_to, SoundTexts, SoundPlain, Encoded, no_sizes}
 use Rattle.editor.specs.Wording.Promise.{Sound, stores, pattern_taken, replacement_taken, handed}
-use Rattle.editor.proofs.Laws.Quotation.{no-quotation, copied-whole}
+use Rattle.editor.proofs.Laws.Quotation.{no-quotation}
 use Rattle.editor.proofs.Laws.Session.{measured}
 use Rattle.editor.proofs.Laws.Encoding.{plain-of-encoded, encoded-ok, encoded-sized, session-encoded}
 use Rattle.editor.proofs.Laws.Outcomes.{bounded-done}
 use Rattle.editor.proofs.Laws.States.{sound-fits, with-pattern-sound, found-sound, with-replacement-sound}
-
--- What `give_quotation` does, call by call: the quotation is copied out, given as a pair, and its two quarters are cleared.
-pub quotation-given : (Q l r at : ℕ) (side own rest given then : List ℕ) → length side ≡ 4 * Q → at + Q ≤ 4 * Q
-    → length own ≡ Q → own ≡ take Q side ++ rest
-    → given ≡ paired (length (mid_of at (at + Q - at) side)) (ungap l r own) → length given ≡ length (mid_of at (at + Q - at) side)
-    → then ≡ patch 0 (zeros (2 * Q)) (put_mid at (at + Q - at) side given)
-    → then ≡ patch 0 (zeros (2 * Q)) (patch at (paired Q (ungap l r (quarter_of Q 0 side))) side)
-unfolding part
-quotation-given Q l r at side own rest given then long fits size copied pair same cleared =
-    let quarter-long : length (mid_of at (at + Q - at) side) ≡ Q = ap length (part-lent at Q side (omega arith)) ∙ length_part at Q side (omega arith) in
-    let out : own ≡ take Q side = copied-whole Q (take Q side) own rest (length-take-le Q side (omega arith)) size copied in
-    let paired-so : given ≡ paired Q (ungap l r (take Q side)) = pair ∙ λ i. paired (quarter-long i) (ungap l r (out i)) in
-    let k : at + Q - at ≡ Q = omega arith in
-    cleared ∙ ap (patch 0 (zeros (2 * Q))) (part-back at (at + Q - at) side given (same ∙ quarter-long ∙ sym k) ∙ ap (λ run. patch at run side) paired-so)
-    ∙ rw zero-mul
 
 -- The run takes the place of y, and the front becomes free.
 placed-behind : (front x y z run : List ℕ) (k at : ℕ) → length front ≡ k → k + length x ≡ at → length y ≡ length run
@@ -50,6 +35,35 @@ placed-behind front x y z run k at e f g =
     ap (λ s. patch 0 (zeros k) (patch at run s)) (sym (append_assoc front x (y ++ z)))
     ∙ ap (patch 0 (zeros k)) (patch-middle (front ++ x) y z run at place g ∙ append_assoc front x (run ++ z))
     ∙ patch-middle [] front (x ++ (run ++ z)) (zeros k) 0 refl (e ∙ sym (length-zeros k))
+
+-- What `give_quotation` does, call by call: the side store is parted behind the quotation's two quarters, the quotation is given to a quarter of
+-- the rest as a pair, and its own two are cleared.
+pub quotation-given : (Q l r at : ℕ) (side own others freed given : List ℕ) → length side ≡ 4 * Q → 2 * Q ≤ at → at + Q ≤ 4 * Q
+    → own ≡ take (2 * Q) side → others ≡ drop (2 * Q) side
+    → given ≡ paired (length (mid_of (at - 2 * Q) (at - 2 * Q + Q - (at - 2 * Q)) others)) (ungap l r (take Q own))
+    → length given ≡ length (mid_of (at - 2 * Q) (at - 2 * Q + Q - (at - 2 * Q)) others) → freed ≡ zeros (length own)
+    → freed ++ put_mid (at - 2 * Q) (at - 2 * Q + Q - (at - 2 * Q)) others given
+    ≡ patch 0 (zeros (2 * Q)) (patch at (paired Q (ungap l r (quarter_of Q 0 side))) side)
+unfolding part
+quotation-given Q l r at side own others freed given long behind fits front rest pair same cleared =
+    let from : ℕ = at - 2 * Q in
+    let k : from + Q - from ≡ Q = omega arith in
+    let own-long : length own ≡ 2 * Q = ap length front ∙ length-take-le (2 * Q) side (omega arith) in
+    let rest-long : length others ≡ 2 * Q = ap length rest ∙ length-drop (2 * Q) side ∙ omega arith in
+    let x : List ℕ = take from others in
+    let y : List ℕ = take Q (drop from others) in
+    let z : List ℕ = drop Q (drop from others) in
+    let x-long : length x ≡ from = length-take-le from others (omega arith) in
+    let y-long : length y ≡ Q = length_part from Q others (omega arith) in
+    let mid-long : length (mid_of from (from + Q - from) others) ≡ Q = ap (λ n. length (take n (drop from others))) k ∙ y-long in
+    let text : take Q own ≡ take Q side = ap (take Q) front ∙ take-take Q (2 * Q) side (omega arith) in
+    let paired-so : given ≡ paired Q (ungap l r (take Q side)) = pair ∙ λ i. paired (mid-long i) (ungap l r (text i)) in
+    let pieces : x ++ (y ++ z) ≡ others = ap (λ t. x ++ t) (take-append-drop Q (drop from others)) ∙ take-append-drop from others in
+    let whole : own ++ (x ++ (y ++ z)) ≡ side = (λ i. front i ++ (pieces ∙ rest) i) ∙ take-append-drop (2 * Q) side in
+    (λ i. (cleared ∙ ap zeros own-long) i ++ put_mid from (k i) others given)
+    ∙ sym (placed-behind own x y z given (2 * Q) at own-long (omega arith) (y-long ∙ sym (same ∙ mid-long)))
+    ∙ (λ i. patch 0 (zeros (2 * Q)) (patch at (paired-so i) (whole i)))
+    ∙ rw zero-mul
 
 -- A pair store of a quotation and one of its content alone have the same bytes.
 same-pair : (Q : ℕ) (d : Doc) → paired Q (alone (content d)) ≡ paired Q d

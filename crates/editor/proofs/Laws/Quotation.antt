@@ -1,16 +1,16 @@
--- The quotation's two quarters at the front of the side store: its text and its recall text, lent, put back and cleared.
+-- The quotation's two quarters at the front of the side store: its text and its recall text, lent apart and cleared.
 use mathlib.Core.Path.{◌≡◌, sym, ap, ◌∙◌}
 use mathlib.Core.List.{List, [], ◌++◌, append_assoc, append-nil}
 use Prim.Native.Nat.{ℕ, ◌+◌, ◌*◌}
 use native.Mathlib.Nat.{zero-mul, one-mul, sub-zero}
 use native.Mathlib.Omega.{arith}
 use lib.ListN.{length, take, drop, length-append, take-append-drop}
-use lib.Seq.{length-take-le, take_all, take_at, drop_at, drop-drop}
+use lib.Seq.{length-take-le, drop_at, drop-drop}
 use Rattle.gap.specs.Rules.Sequence.{part, patch, zeros}
 use Rattle.gap.specs.Rules.Doc.{empty}
 use Rattle.gap.specs.Rules.Layout.{gapped, paired}
 use Rattle.gap.proofs.Laws.Sequence.{length-zeros}
-use Rattle.gap.proofs.Laws.Runs.{zeros-both, part-middle, patch-middle}
+use Rattle.gap.proofs.Laws.Runs.{zeros-both, part-middle}
 use Rattle.editor.specs.Words.{Sizes}
 use Rattle.editor.specs.Wording.Promise.{SideReply}
 use Rattle.editor.specs.Rules.Plain.{Side, Did}
@@ -41,49 +41,37 @@ pub quotation-cleared : (Q : ℕ) (s : List ℕ) → patch 0 (zeros (2 * Q)) s �
 unfolding patch
 quotation-cleared Q s = rw length-zeros (no-quotation Q (drop (2 * Q) s))
 
--- A run copied to the front of an array of its own length is all of it.
-pub copied-whole : (k : ℕ) (run own rest : List ℕ) → length run ≡ k → length own ≡ k → own ≡ run ++ rest → own ≡ run
-copied-whole k run own rest long same e = sym (take_all k own (omega arith)) ∙ ap (take k) e ∙ take_at run rest k long
+-- Texts of a quarter's length that stand in the first two quarters, and nothing else is new.
+module _ (Q : ℕ) (side text recall exit : List ℕ) (first : length text ≡ Q) (second : length recall ≡ Q)
+    (e : exit ≡ text ++ (recall ++ drop (2 * Q) side)) where
+  first_back : quarter_of Q 0 exit ≡ text
+  first_back = ap (quarter_of Q 0) e ∙ part-middle [] text _ (0 * Q) Q (omega arith) first
 
-module _ (Q : ℕ) (side : List ℕ) (long : length side ≡ 4 * Q) where
-  length-second : length (quarter_of Q 1 side) ≡ Q
-  length-second = length-quarter Q 3 1 side long (omega arith)
+  second_back : quarter_of Q 1 exit ≡ recall
+  second_back = ap (quarter_of Q 1) e ∙ part-middle text recall _ (1 * Q) Q (omega arith) second
 
-  -- The recall text's quarter, copied into an array of its length.
-  pub second-copied : (own rest : List ℕ) → length own ≡ Q → own ≡ quarter_of Q 1 side ++ rest → own ≡ quarter_of Q 1 side
-  second-copied own rest same e = copied-whole Q (quarter_of Q 1 side) own rest length-second same e
+  rest_back : drop (2 * Q) exit ≡ drop (2 * Q) side
+  rest_back =
+      ap (drop (2 * Q)) (e ∙ sym (append_assoc text recall _))
+      ∙ drop_at (text ++ recall) _ (2 * Q) (rw length-append (omega arith))
 
-  -- The text's quarter where it was, and the array's bytes copied back behind it.
-  module _ (text recall exit : List ℕ) (first : length text ≡ Q) (second : length recall ≡ Q)
-      (e : exit ≡ patch Q recall (text ++ drop Q side)) where
-    put_back : exit ≡ text ++ (recall ++ drop (2 * Q) side)
-    put_back =
-        e ∙ ap (λ rest. patch Q recall (text ++ rest)) (sym (second-quarter Q side))
-        ∙ patch-middle text (quarter_of Q 1 side) (drop (2 * Q) side) recall Q first (length-second ∙ sym second)
-
-    first_back : quarter_of Q 0 exit ≡ text
-    first_back = ap (quarter_of Q 0) put_back ∙ part-middle [] text _ (0 * Q) Q (omega arith) first
-
-    second_back : quarter_of Q 1 exit ≡ recall
-    second_back = ap (quarter_of Q 1) put_back ∙ part-middle text recall _ (1 * Q) Q (omega arith) second
-
-    rest_back : drop (2 * Q) exit ≡ drop (2 * Q) side
-    rest_back =
-        ap (drop (2 * Q)) (put_back ∙ sym (append_assoc text recall _))
-        ∙ drop_at (text ++ recall) _ (2 * Q) (rw length-append (omega arith))
-
-  -- A key on the text's quarter and on the array is a key on the two quarters.
-  pub quotation-edited : (limit : ℕ) (t : SideReply) (n : Sizes) (edit : Side → Did Side) (own text recall exit : List ℕ) → own ≡ quarter_of Q 1 side
-      → length text ≡ length (take Q side) → length recall ≡ length own
-      → EditsSide limit t n edit (take Q side) own text recall → exit ≡ patch Q recall (text ++ drop Q side)
-      → EditsSide limit t n edit (quarter_of Q 0 side) (quarter_of Q 1 side) (quarter_of Q 0 exit) (quarter_of Q 1 exit)
-      × (drop (2 * Q) exit ≡ drop (2 * Q) side)
-  unfolding part
-  quotation-edited limit t n edit own text recall exit known first second turns back =
-      let one : length text ≡ Q = first ∙ length-take-le Q side (omega arith) in
-      let other : length recall ≡ Q = second ∙ ap length known ∙ length-second in
-      let before : take Q side ≡ quarter_of Q 0 side = rw zero-mul in (
-        (λ i. record { reply = t; text = first_back text recall exit one other back i; recall = second_back text recall exit one other back i })
-            ∙ turns ∙ λ i. written limit n (before i) (known i) (edit (side_held n (before i) (known i))),
-        rest_back text recall exit one other back,
-      )
+-- The side store parted behind its first quarter, and the second one lent from the rest: a key on both is a key on the two quarters.
+pub quotation-edited : (Q : ℕ) (side : List ℕ) → length side ≡ 4 * Q
+    → (limit : ℕ) (t : SideReply) (n : Sizes) (edit : Side → Did Side) (own others text recall exit : List ℕ) → own ≡ take Q side → others ≡ drop Q side
+    → length text ≡ length own → length recall ≡ length (take Q others)
+    → EditsSide limit t n edit own (take Q others) text recall → exit ≡ text ++ (recall ++ drop Q others)
+    → EditsSide limit t n edit (quarter_of Q 0 side) (quarter_of Q 1 side) (quarter_of Q 0 exit) (quarter_of Q 1 exit)
+    × (drop (2 * Q) exit ≡ drop (2 * Q) side)
+unfolding part
+quotation-edited Q side long limit t n edit own others text recall exit front behind same kept turns back =
+    let double : Q + Q ≡ 2 * Q = omega arith in
+    let before : own ≡ quarter_of Q 0 side = rw zero-mul front in
+    let known : take Q others ≡ quarter_of Q 1 side = rw one-mul (ap (take Q) behind) in
+    let rest : drop Q others ≡ drop (2 * Q) side = ap (drop Q) behind ∙ drop-drop Q Q side ∙ ap (λ k. drop k side) double in
+    let one : length text ≡ Q = same ∙ ap length front ∙ length-take-le Q side (omega arith) in
+    let other : length recall ≡ Q = kept ∙ ap length known ∙ length-quarter Q 3 1 side long (omega arith) in
+    let e : exit ≡ text ++ (recall ++ drop (2 * Q) side) = back ∙ ap (λ z. text ++ (recall ++ z)) rest in (
+      (λ i. record { reply = t; text = first_back Q side text recall exit one other e i; recall = second_back Q side text recall exit one other e i })
+          ∙ turns ∙ λ i. written limit n (before i) (known i) (edit (side_held n (before i) (known i))),
+      rest_back Q side text recall exit one other e,
+    )

@@ -1,9 +1,10 @@
 -- Laws of keys on one side: how such a key ends, refused as FULL or as LINE or done, and what each edit makes of the sizes that a side has.
 use Rattle.std.proofs.Common.{Option, Some, None}
 use mathlib.Core.Path.{◌≡◌, refl, sym, ap, ◌∙◌}
-use mathlib.Core.Bool.{Bool, true, false}
-use mathlib.Core.List.{List, [], ◌∷◌, append-nil}
+use mathlib.Core.Bool.{Bool, true, false, cond}
+use mathlib.Core.List.{List, ◌∷◌, append-nil}
 use Prim.Native.Nat.{ℕ, ◌+◌, ◌-◌, ◌%◌, ◌≤◌, ◌<◌}
+use lib.Dec.{leb}
 use native.Mathlib.Omega.{arith}
 use lib.ListN.{length, take, drop, length-append, length-take, length-drop}
 use lib.Seq.{length-take-le, take-length, take-take, drop-drop}
@@ -22,7 +23,7 @@ use Rattle.gap.proofs.Laws.LineLimits.{fit-left, fit-right, fit-take, fit-drop}
 use Rattle.gap.proofs.Laws.Indents.{length-spaces, spaces-suc}
 use Rattle.gap.proofs.Laws.Layout.{length-left, length-right}
 use Rattle.editor.specs.Words.{Direction, Left, Right, Passage, Action, Move, Delete, Place, Sizes, Report}
-use Rattle.editor.specs.Wording.Promise.{SideReply}
+use Rattle.editor.specs.Wording.Promise.{SideReply, SideEdited}
 use Rattle.editor.specs.Rules.Refusals.{FULL, LINE}
 use Rattle.editor.specs.Rules.Plain.{Side, quiet, rang, went, Did, reporting}
 use Rattle.gap.proofs.Laws.Nearest.{reached-least}
@@ -92,8 +93,24 @@ deletions-shorten Right d n = omega arith
 abbrev entered : Report → Doc → Side → Did Side
 entered report x s = reporting report (record { text = splice 0 0 x s.text; recall = s.recall })
 
-abbrev single : ℕ → Doc
-single b = record { l = b ∷ []; r = [] }
+-- A reply with nothing to say, and what a key gives with it: what one gives that leaves the same, quietly.
+abbrev pub quieted : SideReply → SideReply
+quieted t = record { code = t.code; report = quiet; sizes = t.sizes }
+
+abbrev hushed : SideEdited → SideEdited
+hushed e = record { reply = quieted e.reply; text = e.text; recall = e.recall }
+
+hushed-checked : (room lines : Bool) (done long full : SideEdited)
+    → hushed (cond room (cond lines done long) full) ≡ cond room (cond lines (hushed done) (hushed long)) (hushed full)
+hushed-checked true true done long full = refl
+hushed-checked true false done long full = refl
+hushed-checked false lines done long full = refl
+
+hushed-written : (limit : ℕ) (n : Sizes) (text recall : List ℕ) (did : Did Side)
+    → hushed (written limit n text recall did) ≡ written limit n text recall (reporting quiet did.state)
+unfolding written
+hushed-written limit n text recall did =
+    hushed-checked (leb (length (content did.state.text)) (length text)) (lines_fit limit (content did.state.text)) _ _ _
 
 -- A distance that was found is within the room, and so are the moves of a passage.
 room-held : (way : Direction) (l r : ℕ) (text : List ℕ) → l + r ≤ length text
@@ -166,24 +183,6 @@ module _ {limit : ℕ} {n : Sizes} {text recall : List ℕ} (on : OnSide limit n
         landed limit n text recall _ reply said (rw (entered-left, entered-right) (omega arith)) lines
         (same-sizes (l ∙ sym entered-left) (r ∙ sym entered-right) (sym first) (sym second)) store (sym on.pair.holds)
 
-  -- An insertion puts no spaces behind its byte.
-  pub insert-refused : (b : ℕ) {t : SideReply} → t ≡ refused_reply FULL n → length text ≤ n.l + n.r
-      → EditsSide limit t n (inserted b) text recall text recall
-  unfolding inserted
-  insert-refused b e full = enters-not quiet (single b) e (omega arith)
-
-  pub insert-long : (b : ℕ) {t : SideReply} → t ≡ refused_reply LINE n → n.l + n.r < length text
-      → lines_fit limit (content (splice 0 0 (leftward (b ∷ spaces 0)) doc)) ≡ false → EditsSide limit t n (inserted b) text recall text recall
-  unfolding inserted spaces
-  insert-long b e room long = enters-long quiet (single b) e (omega arith) long
-
-  pub insert-done : (b : ℕ) {t : SideReply} {report : Report} {text_then : List ℕ}
-      → t ≡ done_reply report (record { l = n.l + 1; r = n.r; rl = n.rl; rr = n.rr }) → report ≡ quiet → n.l + n.r < length text
-      → lines_fit limit (content (splice 0 0 (leftward (b ∷ spaces 0)) doc)) ≡ true
-      → text_then ≡ gapped (length text) (splice 0 0 (single b) doc) → EditsSide limit t n (inserted b) text recall text_then recall
-  unfolding inserted spaces
-  insert-done b reply said room lines store = enters quiet (single b) reply said (omega arith) lines refl (omega arith) store
-
   pub recall-refused : {t : SideReply} → t ≡ refused_reply FULL n → length text - (n.l + n.r) < n.rl + n.rr
       → EditsSide limit t n recalled text recall text recall
   unfolding recalled
@@ -226,6 +225,12 @@ module _ {limit : ℕ} {n : Sizes} {text recall : List ℕ} (on : OnSide limit n
       let long : k + 1 ≡ length (b ∷ spaces k) = omega (arith, length-spaces k) in
       enters (went (length (b ∷ spaces k)) 0) (leftward (b ∷ spaces k)) reply (said ∙ ap (λ m. went m 0) long) (omega (arith, room)) lines
       (ap (λ m. n.l + m) long) (omega arith) store
+
+  -- An insertion puts no spaces behind its byte, and says nothing of it.
+  pub byte-quietly : (b : ℕ) {t : SideReply} {text_then : List ℕ} → EditsSide limit t n (inserted_run (b ∷ spaces 0)) text recall text_then recall
+      → EditsSide limit (quieted t) n (inserted b) text recall text_then recall
+  unfolding inserted inserted_run spaces
+  byte-quietly b turns = ap hushed turns ∙ hushed-written limit n text recall _
 
   -- NEWLINE with the leading spaces that were counted, and TAB from the column that was.
   pub by-indent : {t : SideReply} {k : ℕ} {text_then : List ℕ} → k ≡ indent (take n.l text)

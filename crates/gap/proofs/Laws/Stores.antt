@@ -6,17 +6,16 @@ use native.Mathlib.Nat.{sub-zero, add-zero, zero-add}
 use native.Mathlib.Omega.{arith}
 use lib.ListN.{length, take, drop, set, replicate, length-replicate, length-append, length-drop, take-append-drop}
 use lib.Seq.{length-take-le, take-length}
-use borrow.Rule.Slice.PartMut.{mid_of}
 use Rattle.gap.specs.declared.Direction.{Direction}
 use Rattle.gap.specs.declared.Direction.TheVariants.{Left, Right}
 use Rattle.gap.specs.Rules.Sequence.{part, patch, zeros}
 use Rattle.gap.specs.Rules.Doc.{Doc, room, delete, times, passed, removed, splice}
 use Rattle.gap.specs.Rules.Indents.{space, spaces}
-use Rattle.gap.specs.Rules.Layout.{gapped, paired, ungap, unpair, IsGap}
-use Rattle.gap.proofs.Laws.Sequence.{length_part, length-zeros}
+use Rattle.gap.specs.Rules.Layout.{gapped, paired, ungap, IsGap}
+use Rattle.gap.proofs.Laws.Sequence.{length-zeros}
 use Rattle.gap.proofs.Laws.Doc.{same-texts, deletions-left, deletions-right, insertions}
 use Rattle.gap.proofs.Laws.Layout.{length-left, length-right}
-use Rattle.gap.proofs.Laws.Runs.{zeros-both, part-middle, patch-none, patch-one, patch-middle, tail_of, tail-lent, part-lent}
+use Rattle.gap.proofs.Laws.Runs.{zeros-both, part-middle, patch-none, patch-one, patch-middle}
 use Rattle.gap.proofs.Laws.Patches.{patch-behind}
 
 -- Two stores that differ in one run of k bytes: at the place, the one has the run and the other has zeros.
@@ -151,19 +150,16 @@ module _ {l r : ℕ} {s : List ℕ} (gap : IsGap l r s) where
     removes : (m : ℕ) → part (from way (length s) l r k) k s ++ zeros (m - k) ≡ paired m (removed way k (ungap l r s))
     removes m = rw (taken gap-deleted) (rw gap-deleted.size at (alone way k (ungap l r s) m))
 
-  gap-inserted : (p : Doc) → l + r + (length p.l + length p.r) ≤ length s
+  -- A pair goes in around the cursor.
+  pub gap-inserted : (p : Doc) → l + r + (length p.l + length p.r) ≤ length s
       → patch (length s - r - length p.r) p.r (patch l p.l s) ≡ gapped (length s) (splice 0 0 p (ungap l r s))
   gap-inserted p h =
       rw (left, right, gap.holds) at (inserted (length s) (ungap l r s) sizes p (rw (left, right) h))
 
-  -- A run goes in at the front of the gap; so does a byte, and a byte with spaces behind it.
+  -- A run goes in at the front of the gap; so does a byte with spaces behind it.
   run-inserted : (run : List ℕ) → l + r + length run ≤ length s
       → patch l run s ≡ gapped (length s) (splice 0 0 (record { l = run; r = [] }) (ungap l r s))
   run-inserted run h = sym (patch-none _ (length s - r - 0)) ∙ gap-inserted (record { l = run; r = [] }) (omega arith)
-
-  pub inserts : (b : ℕ) → l + r < length s
-      → set s l b ≡ gapped (length s) (splice 0 0 (record { l = b ∷ []; r = [] }) (ungap l r s))
-  inserts b h = patch-one s l b (omega arith) ∙ run-inserted (b ∷ []) (omega arith)
 
   pub inserts-spaced : (b n : ℕ) → l + r + n < length s
       → patch (l + 1) (replicate n space) (set s l b) ≡ gapped (length s) (splice 0 0 (record { l = b ∷ spaces n; r = [] }) (ungap l r s))
@@ -173,15 +169,6 @@ module _ {l r : ℕ} {s : List ℕ} (gap : IsGap l r s) where
       ∙ patch-behind (b ∷ []) (replicate n space) s l 1 refl (omega arith)
       ∙ run-inserted (b ∷ replicate n space) (omega (arith, length-replicate n space))
 
-  pub places : (x y : ℕ) (pair : List ℕ) → l + r + (x + y) ≤ length s → x + y ≤ length pair
-      → patch (length s - r - y) (mid_of x (x + y - x) pair) (patch l (take x pair) s)
-      ≡ gapped (length s) (splice 0 0 (unpair x y pair) (ungap l r s))
-  unfolding unpair part
-  places x y pair h within =
-      let first : length (take x pair) ≡ x = length-take-le x pair (omega arith) in
-      let second : length (take y (drop x pair)) ≡ y = length_part x y pair within in
-      rw (part-lent x y pair within) (rw second at (gap-inserted (unpair x y pair) (rw (first, second) h)))
-
 -- What the routine makes of it and of a pair store of m bytes, if it clears those bytes and the pair store then holds them alone.
 pub cuts : (way : Direction) {l r k m : ℕ} {s t pair : List ℕ} → IsGap l r s × ((k ≤ side way l r) × (k ≤ m))
     → (t ≡ patch (from way (length s) l r k) (zeros k) s) × (pair ≡ part (from way (length s) l r k) k s ++ zeros (m - k))
@@ -189,14 +176,10 @@ pub cuts : (way : Direction) {l r k m : ℕ} {s t pair : List ℕ} → IsGap l r
 cuts way asked made =
     (made.0 ∙ deletes asked.0 way _ asked.1.0, made.1 ∙ removes asked.0 way _ asked.1.0 _)
 
--- A pair store that holds the one text of a gap store gets the other behind it.
-pub hands-over : (l r : ℕ) (s old front : List ℕ) → l + r ≤ length s → l + r ≤ length old
-    → front ≡ take l s ++ zeros (length old - length (take l s))
-    → patch l (tail_of (length s - r) s) front ≡ paired (length old) (ungap l r s)
-unfolding ungap paired
-hands-over l r s old front within fits first =
-    let left : length (take l s) ≡ l = length-take-le l s (omega arith) in
-    let right : length (drop (length s - r) s) ≡ r = length-drop (length s - r) s ∙ omega arith in
-    let rest : length old - l ≡ r + (length old - (l + r)) = omega arith in
-    rw (first, tail-lent, left, right, rest, ← zeros-both)
-    (patch-middle (take l s) (zeros r) _ (drop (length s - r) s) l left (length-zeros r ∙ sym right))
+-- A pair store that holds the left text of a document gets the right one behind it.
+pub hands-over : (d : Doc) (old front : List ℕ) → length d.l + length d.r ≤ length old → front ≡ d.l ++ zeros (length old - length d.l)
+    → patch (length d.l) d.r front ≡ paired (length old) d
+unfolding paired
+hands-over d old front fits first =
+    let rest : length old - length d.l ≡ length d.r + (length old - (length d.l + length d.r)) = omega arith in
+    rw (first, rest, ← zeros-both) (patch-middle d.l (zeros (length d.r)) _ d.r (length d.l) refl (length-zeros (length d.r)))

@@ -3,9 +3,8 @@ use Prim.Native.Nat.{◌+◌, ◌-◌, ◌*◌, ◌/◌}
 use mathlib.Core.Path.{◌≡◌, sym, ◌∙◌}
 use native.Mathlib.Nat.{add-zero}
 use native.Mathlib.Omega.{arith}
-use Rattle.gap.proofs.Laws.Scans.{Scan, scan-start}
+use Rattle.gap.proofs.Laws.Scans.{scan-start}
 use Rattle.gap.proofs.Laws.RowScans.{row-none, row-found, row_last}
-use Rattle.editor.specs.Wording.Searches.{match_away}
 use Rattle.editor.proofs.Laws.MatchScans.{reach-part}
 use Rattle.editor.proofs.finds.nearest_match.Goals as goal
 

@@ -1,6 +1,5 @@
 -- `editor::finds::none_likely` meets its contract: the flag tells of the places passed, and what is left decides.
 use mathlib.Core.Bool.{not}
-use Prim.Native.Nat.{◌-◌}
 use Rattle.gap.specs.Rules.Sequence.{counted}
 use Rattle.gap.proofs.Laws.Scans.{Tested}
 use Rattle.editor.specs.Wording.Searches.{likely_at}

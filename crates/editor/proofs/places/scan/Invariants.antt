@@ -1,5 +1,4 @@
 -- `scan`: fewer than d moves reach no place, so that those from d on decide.
-use Prim.Native.Nat.{◌+◌, ◌-◌}
 use lib.ListN.{length}
 use Rattle.gap.proofs.Laws.Scans.{Scan}
 use Rattle.editor.proofs.Laws.PlaceScans.{place_away}

@@ -1,14 +1,9 @@
 -- `quote_key`: with both of its quarters free there is an empty quotation.
 use mathlib.Core.Path.{refl, ap, ◌∙◌}
-use native.Mathlib.Omega.{arith}
 use Rattle.editor.specs.Rules.Bytes.{quarter}
 use Rattle.editor.specs.Wording.Promise.{cleared}
 use Rattle.editor.proofs.Laws.Replies.{quote-done}
 use Rattle.editor.proofs.quotations.quote_key.Goals as goal
-
-pub vacate-requires : goal.vacate-requires
-unfolding quarter
-vacate-requires c = omega (arith, c.requires)
 
 pub returns : goal.returns
 unfolding quarter

@@ -1,22 +1,11 @@
 -- `exchange_fits`: past the test for the pattern no difference can wrap, and what is left is one comparison.
 use Prim.Native.Nat.{◌+◌, ◌-◌}
 use native.Mathlib.Omega.{arith}
-use Rattle.editor.specs.Rules.Bytes.{quarter}
 use Rattle.editor.proofs.Laws.ReplaceRoom.{same_test}
 use Rattle.editor.proofs.searches.exchange_fits.Goals as goal
 
 pub returns-then-not-here : goal.returns-then-not-here
 returns-then-not-here c = rw c.if-not-here.true
-
-pub overflow_add-result : goal.overflow_add-result
-unfolding quarter
-overflow_add-result c = omega (arith, c.requires.xr_bound)
-
-pub overflow_sub-result : goal.overflow_sub-result
-overflow_sub-result c = omega (arith, c.requires.pl_le_r c.if-not-here.false)
-
-pub overflow_sub-result-2 : goal.overflow_sub-result-2
-overflow_sub-result-2 c = omega (arith, c.requires.r_bound)
 
 pub returns : goal.returns
 returns c =

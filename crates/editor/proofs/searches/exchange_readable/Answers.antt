@@ -1,5 +1,6 @@
 -- `exchange_readable` looks at four runs: what stands before the cursor, the two halves of what is put in, and what stands behind the pattern.
 use mathlib.Core.Path.{sym, ◌∙◌}
+use native.Mathlib.Omega.{arith}
 use Rattle.gap.specs.Wording.Views.{seen}
 use Rattle.editor.specs.Rules.LongLines.{longest_line}
 use Rattle.editor.specs.Rules.Bytes.{quarter, plain_of}
@@ -25,7 +26,10 @@ slice_bounds-runs_fit-start c = pattern-inside _ _ c.requires.3 _ c.requires.4 (
 pub runs_fit-requires : goal.runs_fit-requires
 unfolding seen longest_line
 runs_fit-requires c =
-    record { front_value = sides_fit _ _ c.requires.3 _ c.requires.4; y_len_bound = runs-small _ _ c.requires.3 _ c.requires.4 c.replacing-put.ensures }
+    record {
+      front_value = sides_fit _ _ c.requires.3 _ c.requires.4;
+      y_len_bound = omega (arith, runs-small _ _ c.requires.3 _ c.requires.4 c.replacing-put.ensures);
+    }
 
 pub returns : goal.returns
 unfolding seen longest_line plain_of

@@ -1,18 +1,9 @@
 -- `find_key` is a search, in QUOTED once the quotation was handed over as the pattern.
 use mathlib.Core.Path.{◌∙◌}
-use native.Mathlib.Omega.{arith}
 use Rattle.editor.specs.Rules.Bytes.{quarter}
 use Rattle.editor.proofs.Laws.Fitting.{taken-searchable}
 use Rattle.editor.proofs.Laws.HandedOver.{pattern-holds, find-done}
 use Rattle.editor.proofs.searches.find_key.Goals as goal
-
-pub hand_quotation-requires : goal.hand_quotation-requires
-unfolding quarter
-hand_quotation-requires c = record { side_len = (c.requires.quarters, c.requires.quotation); quarter_bound = omega arith }
-
-pub pattern_taken-requires : goal.pattern_taken-requires
-unfolding quarter
-pattern_taken-requires c = omega (arith, c.requires.quotation)
 
 pub search-requires : goal.search-requires
 search-requires c = taken-searchable _ _ _ _ _ c.requires c.pattern_taken.ensures c.hand_quotation.auto.side

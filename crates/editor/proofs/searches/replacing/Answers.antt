@@ -5,10 +5,6 @@ use Rattle.gap.specs.Rules.Sequence.{part}
 use Rattle.editor.specs.Rules.Bytes.{quarter}
 use Rattle.editor.proofs.searches.replacing.Goals as goal
 
-pub slice_bounds-of_pair-end : goal.slice_bounds-of_pair-end
-unfolding quarter
-slice_bounds-of_pair-end c = omega (arith, c.requires.side_len)
-
 pub of_pair-requires : goal.of_pair-requires
 unfolding quarter
 of_pair-requires c = simp (length-take, length-drop) (omega (arith, c.requires.side_len, c.requires.fits))

@@ -1,24 +1,12 @@
 -- `search` is a move on the document's side by the distance that was found; where none was found, the move that only rings.
 use Rattle.editor.specs.Wording.Promise.{editor_done}
 use mathlib.Core.Path.{refl, ap}
-use native.Mathlib.Omega.{arith}
 use Rattle.editor.specs.Words.{Move, Main}
 use Rattle.editor.specs.Rules.Bytes.{quarter}
 use Rattle.editor.proofs.Laws.SideEdits.{not_carried, within-room}
 use Rattle.editor.proofs.Laws.Replies.{on-side}
 use Rattle.editor.proofs.Laws.FindReplace.{search-done}
 use Rattle.editor.proofs.searches.search.Goals as goal
-
-pub overflow_add-end : goal.overflow_add-end
-unfolding quarter
-overflow_add-end c = omega (arith, c.requires.pattern)
-
-pub slice_bounds-match_passage-end : goal.slice_bounds-match_passage-end
-unfolding quarter
-slice_bounds-match_passage-end c = omega (arith, c.requires.pattern, c.requires.quarters)
-
-pub of-document-requires : goal.of-document-requires
-of-document-requires c = c.requires.document.fits
 
 pub returns-in_default : goal.returns-in_default
 unfolding quarter

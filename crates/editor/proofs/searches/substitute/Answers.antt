@@ -9,7 +9,7 @@ use Rattle.editor.specs.Wording.Promise.{stores, editor_done}
 use Rattle.editor.proofs.Laws.MarkedStates.{substituted-unheld, substituted-lines}
 use Rattle.editor.proofs.Laws.Replies.{on-side}
 use Rattle.editor.proofs.Laws.Fitting.{fitting}
-use Rattle.editor.proofs.Laws.FindReplace.{exchangeable, substitute-rings, pattern-dropped, substitute-done}
+use Rattle.editor.proofs.Laws.FindReplace.{exchange-known, substitute-rings, pattern-dropped, substitute-done}
 use Rattle.editor.proofs.searches.substitute.Goals as goal
 
 pub returns-then-not-here : goal.returns-then-not-here
@@ -20,32 +20,31 @@ pub overflow_add-end : goal.overflow_add-end
 unfolding quarter
 overflow_add-end c = omega (arith, fitting quarter _ _ c.requires.1)
 
+pub overflow_sub-rest : goal.overflow_sub-rest
+overflow_sub-rest c = (exchange-known c.requires c.if-not-here.false).stands
+
 pub drop_right-requires : goal.drop_right-requires
 drop_right-requires c =
-    record {
-      gap = (on-side quarter _ _ c.requires.1 Main).gap;
-      d_le_r = (exchangeable quarter _ _ c.requires.1 (sym c.requires.2.known ∙ c.if-not-here.false) c.requires.2.room c.requires.2.lines).stands;
-    }
+    record { gap = (on-side quarter _ _ c.requires.1 Main).gap; d_le_r = (exchange-known c.requires c.if-not-here.false).stands }
 
-pub overflow_sub-r : goal.overflow_sub-r
-overflow_sub-r c = (exchangeable quarter _ _ c.requires.1 (sym c.requires.2.known ∙ c.if-not-here.false) c.requires.2.room c.requires.2.lines).stands
-
-pub slice_bounds-place_pair-end : goal.slice_bounds-place_pair-end
+pub slice_bounds-of_pair-end : goal.slice_bounds-of_pair-end
 unfolding quarter
-slice_bounds-place_pair-end c = omega (arith, fitting quarter _ _ c.requires.1)
+slice_bounds-of_pair-end c = omega (arith, fitting quarter _ _ c.requires.1)
+
+pub of_pair-replacement-requires : goal.of_pair-replacement-requires
+unfolding quarter
+of_pair-replacement-requires c = simp (length-take, length-drop) (omega (arith, fitting quarter _ _ c.requires.1))
 
 pub place_pair-requires : goal.place_pair-requires
 unfolding quarter
 place_pair-requires c =
     record {
       gap = pattern-dropped quarter _ _ c.requires.1 _ c.drop_right.ensures;
-      y_in_bounds = (
-        omega (
-          arith,
-          (exchangeable quarter _ _ c.requires.1 (sym c.requires.2.known ∙ c.if-not-here.false) c.requires.2.room c.requires.2.lines),
-          c.drop_right.auto.s,
-        ),
-        simp (length-take, length-drop) (omega (arith, fitting quarter _ _ c.requires.1)),
+      in_bounds = omega (
+        arith,
+        exchange-known c.requires c.if-not-here.false,
+        c.drop_right.auto.s,
+        c.of_pair-replacement.ensures.lengths,
       );
     }
 
@@ -59,33 +58,24 @@ hold-requires c =
     (omega (
       arith,
       fitting quarter _ _ c.requires.1,
-      (exchangeable quarter _ _ c.requires.1 (sym c.requires.2.known ∙ c.if-not-here.false) c.requires.2.room c.requires.2.lines),
+      exchange-known c.requires c.if-not-here.false,
     ))
 
-pub overflow_add-main : goal.overflow_add-main
-overflow_add-main c =
+pub overflow_add-done : goal.overflow_add-done
+overflow_add-done c =
     omega (
       arith,
-      (exchangeable quarter _ _ c.requires.1 (sym c.requires.2.known ∙ c.if-not-here.false) c.requires.2.room c.requires.2.lines),
-      fitting
-          quarter _ _ c.requires.1,
+      exchange-known c.requires c.if-not-here.false,
+      fitting quarter _ _ c.requires.1,
     )
 
-pub overflow_sub-main : goal.overflow_sub-main
-overflow_sub-main c =
-    (exchangeable quarter _ _ c.requires.1 (sym c.requires.2.known ∙ c.if-not-here.false) c.requires.2.room c.requires.2.lines).stands
-
-pub overflow_add-main-2 : goal.overflow_add-main-2
-overflow_add-main-2 c =
+pub overflow_add-done-2 : goal.overflow_add-done-2
+overflow_add-done-2 c =
     omega (
       arith,
-      (exchangeable quarter _ _ c.requires.1 (sym c.requires.2.known ∙ c.if-not-here.false) c.requires.2.room c.requires.2.lines),
-      fitting
-          quarter _ _ c.requires.1,
+      exchange-known c.requires c.if-not-here.false,
+      fitting quarter _ _ c.requires.1,
     )
-
-pub shape_of-text : goal.shape_of-text
-shape_of-text c = omega (arith, c.place_pair.auto.s, c.drop_right.auto.s)
 
 pub returns : goal.returns
 unfolding quarter plain_of
@@ -95,4 +85,4 @@ returns c =
     let room = substituted-unheld _ _ (unpair _ _ kept) (plain_of quarter _ (stores _ _ c.requires.0 _)) ∙ c.requires.2.room in
     let lines = substituted-lines (unpair _ _ kept) (plain_of quarter _ (stores _ _ c.requires.0 _)) ∙ c.requires.2.lines in
     substitute-done quarter _ _ sound match room lines _ _ _ _ c.drop_right.ensures
-    c.place_pair.ensures c.hold.ensures (ap editor_done c.lifted.ensures) refl refl
+    (rw c.of_pair-replacement.ensures.holds at c.place_pair.ensures) c.hold.ensures (ap editor_done c.lifted.ensures) refl refl

@@ -1,11 +1,7 @@
 -- `move_side`: d moves land in the store, and the sizes moved by d are their lengths, whatever the recall text.
 use mathlib.Core.Path.{refl}
-use native.Mathlib.Omega.{arith}
 use Rattle.editor.proofs.Laws.SideEdits.{room_of_lem, moved}
 use Rattle.editor.proofs.sides.move_side.Goals as goal
-
-pub moved_by-m-requires : goal.moved_by-m-requires
-moved_by-m-requires c = record { d_bound = c.requires.steps_bound; r_bound = omega (arith, c.requires.gap.fits) }
 
 pub move_cursor-requires : goal.move_cursor-requires
 move_cursor-requires c = record { gap = c.requires.gap; d_bound = rw room_of_lem at c.requires.steps_bound }

@@ -5,14 +5,8 @@ use Rattle.editor.proofs.Laws.Splices.{halves-fit}
 use Rattle.editor.proofs.Laws.SideEdits.{recall-refused, recall-long, recall-done}
 use Rattle.editor.proofs.sides.recall_side.Goals as goal
 
-pub returns-then-text-l : goal.returns-then-text-l
-returns-then-text-l c = recall-refused c.requires refl c.if-text-l.true
-
-pub of-requires : goal.of-requires
-of-requires c = c.requires.gap.fits
-
-pub of_pair-requires : goal.of_pair-requires
-of_pair-requires c = c.requires.pair.fits
+pub returns-then-text-n : goal.returns-then-text-n
+returns-then-text-n c = recall-refused c.requires refl c.if-text-n.true
 
 pub pair_fits-requires : goal.pair_fits-requires
 pair_fits-requires c =
@@ -20,18 +14,18 @@ pair_fits-requires c =
       lengths = omega (
         arith,
         c.requires.gap.fits,
-        c.if-text-l.false,
+        c.if-text-n.false,
         c.of.ensures.lengths,
-        c.of_pair.ensures.lengths,
+        c.of_pair-pair.ensures.lengths,
       );
       halves_fit = rw c.of.ensures.holds (halves-fit _ _ c.requires.lines);
     }
 
 pub returns-then-not-pair_fits : goal.returns-then-not-pair_fits
 returns-then-not-pair_fits c =
-    recall-long c.requires refl c.if-text-l.false (sym (rw (c.of.ensures.holds, c.of_pair.ensures.holds) at c.pair_fits.ensures) ∙ c.if-not-pair_fits.true)
+    recall-long c.requires refl c.if-text-n.false (sym (rw (c.of.ensures.holds, c.of_pair-pair.ensures.holds) at c.pair_fits.ensures) ∙ c.if-not-pair_fits.true)
 
 pub returns : goal.returns
 returns c =
-    recall-done c.requires refl refl c.if-text-l.false (sym (rw (c.of.ensures.holds, c.of_pair.ensures.holds) at c.pair_fits.ensures) ∙ c.if-not-pair_fits.false)
-    c.place_pair.ensures
+    recall-done c.requires refl refl c.if-text-n.false (sym (rw (c.of.ensures.holds, c.of_pair-pair.ensures.holds) at c.pair_fits.ensures) ∙ c.if-not-pair_fits.false)
+    (rw c.of_pair-pair.ensures.holds at c.place_pair.ensures)
