@@ -92,7 +92,7 @@ pub const QUARTER: usize = 1024;
 pub const LONGEST_LINE: usize = 1024;
 
 // The lengths of one side: a text left and right of its cursor, and both halves of its recall text.
-#[derive(Clone, Copy)]
+#[derive(Clone, Copy, PartialEq, Eq)]
 pub struct Sizes {
     pub l: usize,
     pub r: usize,

@@ -79,7 +79,7 @@ pub fn moved_by(way: Direction, d: usize, n: Sizes) -> Sizes
 }
 
 // A side with nothing in it.
-const NO_SIZES: Sizes = Sizes {
+pub const NO_SIZES: Sizes = Sizes {
     l: 0,
     r: 0,
     rl: 0,

@@ -1,4 +1,5 @@
-// FIND, UPFIND and REPLACE. Nothing is written before it is known that the key is accepted.
+// FIND, UPFIND and REPLACE. Nothing is written before it is known that the key is accepted. Whether the pattern stands right of the cursor is
+// found once and asked by each step (`here`), so that the refusals of REPLACE are one equation whether it stands there or not.
 ghost use Rattle.std.specs.Prelude.{◌≡◌, true, not, ◌||◌, ◌+◌, ◌-◌, ◌*◌, ◌≤◌, leb, length};
 ghost use Rattle.gap.specs.Wording.Views.{seen};
 ghost use Rattle.editor.specs.Rules.Plain.{done};

@@ -1,5 +1,6 @@
 // Keys on one side: a text in a gap store and its recall text in a pair store of the same length. A key that leaves the recall text
-// alone is not lent it, or lent it for reading. No line of the text is longer than a limit, and none may become longer.
+// alone is not lent it, or lent it for reading: so the two stores stand beside the sizes, which are handed over and back by value as hosts do
+// with the record. No line of the text is longer than a limit, and none may become longer.
 ghost use Rattle.std.specs.Prelude.{◌≡◌, true, ℕ, ◌≤◌};
 ghost use Rattle.gap.specs.Rules.Doc.{content};
 ghost use Rattle.gap.specs.Rules.Layout.{ungap, IsGap};

@@ -6,7 +6,7 @@ ghost use Rattle.editor.specs.Rules.Bytes.{quarter, sized, one_half, unquoted, e
 ghost use Rattle.editor.specs.Wording.Promise.{stores, Opens};
 ghost use Rattle.editor.specs.Wording.Stores.{stores_as, SameStores};
 
-use crate::records::{holding_sizes, opening_lengths};
+use crate::records::{NO_SIZES, holding_sizes, opening_lengths};
 use crate::{LONGEST_LINE, Lengths, Mode, Sizes};
 use gap::line_limits::sound_document;
 use gap::runs::clear;
@@ -43,7 +43,7 @@ fn no_quotation(mode: Mode, n: Sizes) -> bool
     ensures { result ≡ unquoted mode n }
 {
     match mode {
-        Mode::Main => ((n.l == 0) & (n.r == 0)) & ((n.rl == 0) & (n.rr == 0)),
+        Mode::Main => n == NO_SIZES,
         Mode::Quoted => true,
     }
 }

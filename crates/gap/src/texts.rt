@@ -1,4 +1,5 @@
-// Gap stores: moving the cursor, inserting, deleting into a pair store, and placing a pair into the text.
+// Gap stores: moving the cursor, inserting, deleting into a pair store, and placing a pair into the text. The store and its two lengths come one
+// by one: a struct over them would promise besides, at each call, that its store is the one that was lent; and hosts keep the lengths.
 ghost use Rattle.std.specs.Prelude.{◌≡◌, [], ◌∷◌, ◌+◌, ◌≤◌, ◌<◌, length, take};
 ghost use Rattle.gap.specs.Rules.Doc.{empty, move, delete, times, removed, splice};
 ghost use Rattle.gap.specs.Rules.Indents.{spaces};
