@@ -24,7 +24,7 @@ use gap::sound::bad_byte;
 pub fn rows_and_columns(h: usize, w: usize) -> bool
     ensures { result ≡ rows_and_columns h w }
 {
-    ((1 <= h) & (h <= 64)) & ((1 <= w) & (w <= 256))
+    matches!(h, 1..=64) && matches!(w, 1..=256)
 }
 
 // All lengths are as tabled. H and W are known to be small before they are multiplied.

@@ -72,6 +72,7 @@ pub struct HostReply {
 
 // ---- Numbers to the core's own types
 
+// A table for each enum, to and from numbers, and no trait, as in host_keys.rt.
 fn mode_of(m: usize) -> Mode
     ensures { result ≡ mode_of m }
 {
@@ -128,6 +129,7 @@ impl From<Record> for Session {
 
 // ---- And back
 
+// As `mode_of`.
 fn mode_number(mode: Mode) -> usize
     ensures { result ≡ mode_number mode }
 {
