@@ -184,6 +184,7 @@ impl From<Session> for Record {
 pub fn in_numbers(accepted: Accepted) -> HostReply
     ensures { result ≡ numbers_of (accepted_reply accepted) }
 {
+    let rows = accepted.rows();
     HostReply {
         said: Said {
             code: 0,
@@ -191,8 +192,8 @@ pub fn in_numbers(accepted: Accepted) -> HostReply
             steps: accepted.report.steps,
             lines: accepted.report.lines,
             bell: usize::from(accepted.report.bell),
-            first: accepted.first,
-            last: accepted.last,
+            first: rows.first,
+            last: rows.last,
             row: accepted.row,
             column: accepted.column,
         },
