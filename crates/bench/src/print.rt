@@ -57,13 +57,14 @@ pub fn put_accepted(a: Accepted, h: usize, w: usize, screen: &[u8], out: &mut [u
     requires in_bounds { 17408 ≤ length out.old }
     ensures { Wrote 0 (accepted_block h w (accepted_reply a).answer screen.now) out.old result out.new }
 {
+    let rows = a.rows();
     let entries: [(&'static [u8], usize); 8] = [
         (b"code=", 0),
         (b"steps=", a.report.steps),
         (b"lines=", a.report.lines),
         (b"bell=", usize::from(a.report.bell)),
-        (b"first=", a.first),
-        (b"last=", a.last),
+        (b"first=", rows.first),
+        (b"last=", rows.last),
         (b"row=", a.row),
         (b"col=", a.column),
     ];

@@ -9,7 +9,7 @@ ghost use Rattle.window.specs.Wording.Calls.{newlines_left, session_test, Texts,
 
 use crate::cursor::{cursor, follow, is_visible, newlines_left, newlines_now};
 use crate::painter::refresh;
-use crate::{Accepted, Frame, Session, Unopened};
+use crate::{Accepted, Frame, Rows, Session, Unopened};
 use editor::keys::press_session;
 use editor::records::QUIET;
 use editor::refusals::Refusal;
@@ -24,7 +24,7 @@ use gap::sound::bad_byte;
 pub fn rows_and_columns(h: usize, w: usize) -> bool
     ensures { result ≡ rows_and_columns h w }
 {
-    ((1 <= h) & (h <= 64)) & ((1 <= w) & (w <= 256))
+    matches!(h, 1..=64) && matches!(w, 1..=256)
 }
 
 // All lengths are as tabled. H and W are known to be small before they are multiplied.
@@ -98,8 +98,7 @@ fn open_sound(n: usize, h: usize, w: usize, lent: &mut Stores, screen: &mut [u8]
     refresh(lengths, frame, text, side, screen);
     Accepted {
         report: QUIET,
-        first: 1,
-        last: h,
+        named: Some(Rows { first: 1, last: h }),
         row: 1,
         column: 0,
         session: Session { lengths, frame },
@@ -159,11 +158,10 @@ fn show(
 {
     let spot = cursor(above, done.lengths, text, side);
     let g = follow(f, spot);
-    let rows = refresh(done.lengths, g, text, side, screen);
+    let named = refresh(done.lengths, g, text, side, screen);
     Accepted {
         report: done.report,
-        first: rows.first,
-        last: rows.last,
+        named,
         row: spot.row - g.r,
         column: spot.column - g.c,
         session: Session {

@@ -72,6 +72,7 @@ pub struct HostReply {
 
 // ---- Numbers to the core's own types
 
+// A table for each enum, to and from numbers, and no trait, as in host_keys.rt.
 fn mode_of(m: usize) -> Mode
     ensures { result ≡ mode_of m }
 {
@@ -128,6 +129,7 @@ impl From<Record> for Session {
 
 // ---- And back
 
+// As `mode_of`.
 fn mode_number(mode: Mode) -> usize
     ensures { result ≡ mode_number mode }
 {
@@ -182,6 +184,7 @@ impl From<Session> for Record {
 pub fn in_numbers(accepted: Accepted) -> HostReply
     ensures { result ≡ numbers_of (accepted_reply accepted) }
 {
+    let rows = accepted.rows();
     HostReply {
         said: Said {
             code: 0,
@@ -189,8 +192,8 @@ pub fn in_numbers(accepted: Accepted) -> HostReply
             steps: accepted.report.steps,
             lines: accepted.report.lines,
             bell: usize::from(accepted.report.bell),
-            first: accepted.first,
-            last: accepted.last,
+            first: rows.first,
+            last: rows.last,
             row: accepted.row,
             column: accepted.column,
         },

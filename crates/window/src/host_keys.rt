@@ -5,8 +5,8 @@ ghost use Rattle.window.specs.Rules.Host.{none, direction_from, action_from, pla
 use editor::{Action, Key, Place};
 use gap::Direction;
 
-// A table for each enum: a trait of the three would have the same tables, and `TryFrom` belongs to the enums' own crates, which know no
-// numbers.
+// A table for each enum: a trait of the four, `Mode` among them, would be given the same four tables, and a name more; `TryFrom` belongs to
+// the enums' own crates, which know no numbers.
 fn direction_of(d: usize) -> Option<Direction>
     ensures { result ≡ cond (leb d 1) (Some (direction_from d)) None }
 {

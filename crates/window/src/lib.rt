@@ -15,6 +15,7 @@ pub mod sequences;
 pub mod writer;
 
 ghost use Rattle.std.specs.Prelude.{◌≡◌};
+ghost use Rattle.window.specs.Wording.Painter.{rows_in};
 ghost use Rattle.window.specs.Wording.Unopened.{refusal_in, place_in};
 
 use editor::refusals::Refusal;
@@ -59,15 +60,23 @@ pub struct Rows {
     pub last: usize,
 }
 
-// What an accepted call answers: its report, the named rows, 0 and 0 for none, where on the screen the cursor is, and the record.
+// What an accepted call answers: its report, the rows named, if any, where on the screen the cursor is, and the record.
 #[derive(Clone, Copy)]
 pub struct Accepted {
     pub report: Report,
-    pub first: usize,
-    pub last: usize,
+    pub named: Option<Rows>,
     pub row: usize,
     pub column: usize,
     pub session: Session,
+}
+
+impl Accepted {
+    // The named rows in numbers: 0 and 0 for none.
+    pub fn rows(self) -> Rows
+        ensures { result ≡ rows_in self.named }
+    {
+        self.named.unwrap_or(Rows { first: 0, last: 0 })
+    }
 }
 
 // Why an opening is refused: for TEXT and LINE with the place.

@@ -1,8 +1,8 @@
 // The painter: the text is gone over once from the window's first line on, each cell is written once, and the changed rows are found on
 // the way. A painter holds the lent screen; each step leaves it the same but for pen and cells, which ties the screen to the painter.
-ghost use Rattle.std.specs.Prelude.{◌≡◌, true, false, ◌<◌, length, map, unwrap_or};
+ghost use Rattle.std.specs.Prelude.{◌≡◌, true, false, ◌<◌, length, map};
 ghost use Rattle.gap.specs.Rules.Lines.{newlines};
-ghost use Rattle.window.specs.Wording.Painter.{above, paint, finish_paint, begun, Easel, Canvas, sheet_of, with_sheet, no_rows, LineStart};
+ghost use Rattle.window.specs.Wording.Painter.{above, paint, finish_paint, begun, Easel, Canvas, sheet_of, with_sheet, LineStart};
 ghost use Rattle.gap.specs.Rules.Doc.{content};
 ghost use Rattle.window.specs.Rules.Window.{joined, visible};
 ghost use Rattle.window.specs.Wording.Calls.{Texts, virtual_held, Refreshed};
@@ -133,17 +133,10 @@ impl<'a> Painter<'a> {
             self.end_row();
         }
     }
-
-    // The rows that it has named, as a call answers them: 0 and 0 for none. (`self.exit.0` is the screen as it is left.)
-    fn named_rows(self) -> Rows
-        ensures { (result ≡ unwrap_or self.entry.pen.named no_rows) × (self.exit.0.now ≡ self.entry.screen.now) }
-    {
-        self.pen.named.unwrap_or(Rows { first: 0, last: 0 })
-    }
 }
 
 // The virtual text becomes the screen, and the changed rows are named.
-pub fn refresh(n: Lengths, f: Frame, text: &[u8], side: &[u8], screen: &mut [u8]) -> Rows
+pub fn refresh(n: Lengths, f: Frame, text: &[u8], side: &[u8], screen: &mut [u8]) -> Option<Rows>
     requires texts { Texts n text.now side.now }
     requires canvas { (Canvas f (length text.now) screen.old) × (visible f (virtual_held n text.now side.now) ≡ true) }
     ensures { Refreshed f (virtual_held n text.now side.now) screen.old result screen.new }
@@ -151,5 +144,5 @@ pub fn refresh(n: Lengths, f: Frame, text: &[u8], side: &[u8], screen: &mut [u8]
     let mut painter = Painter::at_first(f, screen);
     painter.paint_text(n, text, side);
     painter.finish();
-    painter.named_rows()
+    painter.pen.named
 }

@@ -32,7 +32,7 @@ use Rattle.window.specs.Rules.Core.{Reply}
 use Rattle.window.specs.Rules.Window.{virtual, virtual_in, row_of, column_of, window, visible, policy}
 use Rattle.window.specs.Rules.Core.{Lent, Called, T, rows_and_columns, tabled, session_in, is_session, shown, finished, keyed, held, lent_of}
 use Rattle.window.specs.Rules.Rows.{first_row, last_row}
-use Rattle.window.specs.Wording.Painter.{Canvas}
+use Rattle.window.specs.Wording.Painter.{rows_in, Canvas}
 use Rattle.window.specs.Wording.Calls.{newlines_left, LeftCounted, session_test, spot_in, visible_at, policy_at, TextsIn, Texts, virtual_held_in, virtual_held}
 use Rattle.window.specs.Wording.Calls.{Refreshed, lent, called, turned_down_reply, reported}
 use Rattle.window.proofs.Laws.Window.{policy-visible, Visible, visible-says}
@@ -197,12 +197,12 @@ module _ (f : Frame) (n : Lengths) (t s scr : List ℕ) (held : Texts n t s) (fr
         }
 
     -- The reply is what the definition shows, whatever the stores of recall text and held text hold.
-    pub shows-so : (report : Report) (rows : Rows) (new : List ℕ) → Refreshed g (virtual_held n t s) scr rows new
+    pub shows-so : (report : Report) (named : Option Rows) (new : List ℕ) → Refreshed g (virtual_held n t s) scr named new
         → (c h : List ℕ) → Sound quarter n (stores t c h s)
-        → shown_as report rows.first rows.last spot g n new (stores t c h s)
+        → shown_as report (rows_in named).first (rows_in named).last spot g n new (stores t c h s)
         ≡ shown f (lent t c h s scr) (record { state = plain_of quarter n (stores t c h s); report = report })
     unfolding shown plain_of policy
-    shows-so report rows new fresh c h sound =
+    shows-so report named new fresh c h sound =
         let d = virtual_held n t s in
         let encoded = session-encoded quarter n (stores t c h s) sound.tabled sound.ok in
         let first = ap (λ q. q.first) fresh.rows ∙ ap (λ q. first_row q.h q.w scr (window q d)) followed in

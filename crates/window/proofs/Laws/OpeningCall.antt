@@ -98,8 +98,8 @@ module _ (n H W : ℕ) (b : Lent) (fit : tabled H W b ≡ true) (fits : n ≤ T 
         )
 
     -- The reply and the five stores are those of the text opened.
-    pub text-opened : {screen_then : List ℕ} {rows : Rows}
-        → Refreshed (start H W) (virtual_held m text_then side_then) b.screen rows screen_then
+    pub text-opened : {screen_then : List ℕ} {named : Option Rows}
+        → Refreshed (start H W) (virtual_held m text_then side_then) b.screen named screen_then
         → called
         (record {
           answer = record { code = 0; place = 0; report = quiet; first = 1; last = H; row = 1; column = 0 };

@@ -8,14 +8,14 @@ use native.Mathlib.Nat.{zero-mul, suc-mul, eq-or-lt_of_le}
 use native.Mathlib.Omega.{arith}
 use lib.ListN.{length, take, drop, length-append, length-take, length-drop, drop_of_length-le}
 use lib.Seq.{length-take-le, take-add, take_at, take_all, drop_at, drop-drop}
-use Rattle.std.specs.Prelude.{Option, None, Some, unwrap_or}
+use Rattle.std.specs.Prelude.{Option, None, Some}
 use Rattle.gap.specs.Rules.Sequence.{same_bytes, part, patch}
 use Rattle.gap.proofs.Laws.Tests.{clash}
 use Rattle.gap.proofs.Laws.Compared.{same_parts}
 use Rattle.window.specs.Words.{Frame}
 use Rattle.window.specs.Rules.Rows.{changed, first_row, last_row}
 use Rattle.window.specs.declared.Rows.{Rows}
-use Rattle.window.specs.Wording.Painter.{Sheet, begun, put, with_row, row_below, no_rows}
+use Rattle.window.specs.Wording.Painter.{Sheet, begun, put, with_row, row_below, rows_in}
 use Rattle.window.proofs.Laws.Rows.{Ends, Named, nothing, run, named}
 use Rattle.window.proofs.Laws.Paint.{moved}
 
@@ -62,7 +62,7 @@ one-row-more test n (Some rows) true ends e = record {
 
 -- As a call answers them.
 rows-answered : (test : ℕ → Bool) (n : ℕ) (rows : Option Rows) → NamedRows test n rows
-    → Named test n (unwrap_or rows no_rows).first (unwrap_or rows no_rows).last
+    → Named test n (rows_in rows).first (rows_in rows).last
 rows-answered test n None none = nothing none
 rows-answered test n (Some rows) ends = run {first = rows.first} {last = rows.last} ends
 
@@ -162,7 +162,7 @@ module _ (f : Frame) (old new : List ℕ) where
     -- All rows are painted.
     pub reached-all : (p : Sheet) → Reached f old new f.h 0 p
         → (p.screen ≡ new)
-        × (unwrap_or p.pen.named no_rows ≡ record { first = first_row f.h f.w old new; last = last_row f.h f.w old new })
+        × (rows_in p.pen.named ≡ record { first = first_row f.h f.w old new; last = last_row f.h f.w old new })
     reached-all p so_far =
         let end : f.h * f.w + 0 ≡ f.h * f.w = omega arith in
         let all = take_all (f.h * f.w) new (omega arith) in

@@ -10,7 +10,6 @@ use lib.Dec.{eqb}
 use lib.ListN.{length, get_or, length-replicate}
 use lib.Seq.{append_snoc}
 use borrow.Author.Tests.{lt-ltb, le-ltb, le-leb, lt-leb, leb-true}
-use Rattle.std.specs.Prelude.{unwrap_or}
 use Rattle.gap.specs.Rules.Doc.{Doc, content, times}
 use Rattle.gap.specs.Rules.Lines.{newline, newlines, since_after, since, lines}
 use Rattle.gap.proofs.Laws.Tests.{clash, decided, cond-true}
@@ -20,7 +19,7 @@ use Rattle.window.specs.declared.Pen.{Pen}
 use Rattle.window.specs.Rules.Window.{window}
 use Rattle.window.specs.Rules.Rows.{first_row, last_row}
 use Rattle.window.specs.Wording.Painter.{Sheet, begun, above, over, across, next_cell, put, along, letter, line_below, row_below}
-use Rattle.window.specs.Wording.Painter.{line_end, paint, finish_paint, no_rows}
+use Rattle.window.specs.Wording.Painter.{line_end, paint, finish_paint, rows_in}
 use Rattle.window.proofs.Laws.Window.{length-window}
 use Rattle.window.proofs.Laws.Paint.{byte, paint-over, InRow, letter-fits, blanks, blanks-fit, Lettered, lettered, Ended, ended}
 use Rattle.window.proofs.Laws.Paint.{letter-below, letter-higher, letter-before, letter-behind, letter-inside}
@@ -133,7 +132,7 @@ end-pen f p _ more (end-inside h) = (refl, refl)
 abbrev Done : Frame → Doc → List ℕ → Sheet → Type 0
 Done f d old p =
     let new = window f d in
-    (p.screen ≡ new) × (unwrap_or p.pen.named no_rows ≡ record { first = first_row f.h f.w old new; last = last_row f.h f.w old new })
+    (p.screen ≡ new) × (rows_in p.pen.named ≡ record { first = first_row f.h f.w old new; last = last_row f.h f.w old new })
 
 -- Of the text t ++ u, t is painted: the pen is at its end.
 record Midway (f : Frame) (d : Doc) (old t u : List ℕ) (p : Sheet) : Type 0 where
@@ -232,7 +231,7 @@ module _ (f : Frame) (d : Doc) (old : List ℕ) (size : length old ≡ f.h * f.w
 pub painted : (f : Frame) (d : Doc) (old : List ℕ) → length old ≡ f.h * f.w
     → let p = finish_paint f (paint f (content d) (begun old)) in
     (p.screen ≡ window f d)
-    × (unwrap_or p.pen.named no_rows ≡ record { first = first_row f.h f.w old (window f d); last = last_row f.h f.w old (window f d) })
+    × (rows_in p.pen.named ≡ record { first = first_row f.h f.w old (window f d); last = last_row f.h f.w old (window f d) })
 unfolding newlines since_after
 painted f d old size =
     let none : 0 ≡ 0 - f.r = omega arith in

@@ -7,7 +7,6 @@ use Prim.Native.Nat.{ℕ, ◌+◌, ◌^◌, ◌≤◌}
 use native.Mathlib.Omega.{arith}
 use lib.ListN.{length, take, length-append, length-take, length-drop}
 use lib.Seq.{length-take-le}
-use Rattle.std.specs.Prelude.{unwrap_or}
 use Rattle.gap.specs.Rules.Doc.{Doc, content}
 use Rattle.gap.specs.Rules.Lines.{newlines}
 use Rattle.gap.specs.Rules.Layout.{ungap}
@@ -15,8 +14,7 @@ use Rattle.gap.proofs.Laws.Lines.{newlines-append}
 use Rattle.editor.specs.Rules.Bytes.{quarter, quarter_of}
 use Rattle.window.specs.Words.{Lengths, Mode, Main, Quoted, Frame}
 use Rattle.window.specs.Rules.Window.{virtual_in, visible}
-use Rattle.window.specs.Wording.Painter.{Sheet, begun, above, paint, finish_paint, no_rows, Easel, Canvas}
-use Rattle.window.specs.declared.Rows.{Rows}
+use Rattle.window.specs.Wording.Painter.{Sheet, begun, above, paint, finish_paint, Easel, Canvas}
 use Rattle.window.specs.Wording.Calls.{Texts, virtual_held, Refreshed}
 use Rattle.window.proofs.Laws.Window.{visible-says}
 use Rattle.window.proofs.Laws.Spots.{first-quarter}
@@ -93,8 +91,7 @@ module _ {f : Frame} {n : Lengths} {text side screen : List ℕ} {p : Sheet} (al
         paint-not-above f (content d) (begun screen) all.canvas.long low,
       )
 
-  pub refreshed : {q : Sheet} {rows : Rows} → q ≡ finish_paint f p → rows ≡ unwrap_or q.pen.named no_rows
-      → Refreshed f (virtual_held n text side) screen rows q.screen
-  refreshed e named =
+  pub refreshed : {q : Sheet} → q ≡ finish_paint f p → Refreshed f (virtual_held n text side) screen q.pen.named q.screen
+  refreshed e =
       let done = painted f (virtual_held n text side) screen all.canvas.long in
-      rw (named, e, all.whole) (record { screen = done.0; rows = done.1 })
+      rw (e, all.whole) (record { screen = done.0; rows = done.1 })

@@ -16,6 +16,7 @@ use Rattle.window.specs.declared.Rows.{Rows}
 use Rattle.window.specs.declared.Accepted.{Accepted}
 use Rattle.window.specs.declared.Unopened.{Unopened}
 use Rattle.window.specs.Wording.Unopened.{refusal_in, place_in}
+use Rattle.window.specs.Wording.Painter.{rows_in}
 use Rattle.window.specs.Rules.Window.{virtual_in, row_of, column_of, window, policy_row, policy_column}
 use Rattle.window.specs.Rules.Rows.{first_row, last_row}
 use Rattle.window.specs.Rules.Core.{Lent, Reply, Called, tabled, session_in, refusal, zero_record, shown, opened_text, opened}
@@ -78,9 +79,9 @@ abbrev pub IsSpot : Spot → Lengths → List ℕ → List ℕ → Type 0
 IsSpot s n text side = (Q : ℕ) → TextsIn Q n text side → s ≡ spot_in (virtual_held_in Q n text side)
 
 -- A screen made new: it is the window, and the rows are those that changed.
-pub record Refreshed (f : Frame) (d : Doc) (old : List ℕ) (named : Rows) (new : List ℕ) : Type 0 where
+pub record Refreshed (f : Frame) (d : Doc) (old : List ℕ) (named : Option Rows) (new : List ℕ) : Type 0 where
   pub screen : new ≡ window f d
-  pub rows : named ≡ record { first = first_row f.h f.w old (window f d); last = last_row f.h f.w old (window f d) }
+  pub rows : rows_in named ≡ record { first = first_row f.h f.w old (window f d); last = last_row f.h f.w old (window f d) }
 
 -- ---- Calls
 
@@ -106,7 +107,7 @@ abbrev pub accepted_reply : Accepted → Reply
 accepted_reply a =
     record {
       answer =
-          record { code = 0; place = 0; report = a.report; first = a.first; last = a.last; row = a.row; column = a.column };
+          record { code = 0; place = 0; report = a.report; first = (rows_in a.named).first; last = (rows_in a.named).last; row = a.row; column = a.column };
       session = a.session;
     }
 

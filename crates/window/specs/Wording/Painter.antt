@@ -76,9 +76,10 @@ unfoldable pub letter : Frame → ℕ → Sheet → Sheet
 letter f b p =
     cond (over f p.pen) p (along 1 (cond (in_window f p.pen) (put (next_cell f p.pen) (b ∷ []) p) p))
 
--- A call answers that no rows are named by 0 and 0.
-abbrev pub no_rows : Rows
-no_rows = record { first = 0; last = 0 }
+-- The rows named, as a call answers them: that none are, by 0 and 0.
+abbrev pub rows_in : Option Rows → Rows
+rows_in None = record { first = 0; last = 0 }
+rows_in (Some rows) = rows
 
 -- The rows named so far, and a row below them.
 abbrev pub with_row : Option Rows → ℕ → Rows

@@ -10,8 +10,8 @@ cursor-spot-requires c = record { has_texts = (_, le_refl _, c.requires.texts); 
 pub follow-g-requires : goal.follow-g-requires
 follow-g-requires c = row-from-one (virtual_held c.args.done.lengths c.args.text.now c.args.side.now) _ (c.cursor-spot.ensures _ c.requires.texts)
 
-pub refresh-rows-requires : goal.refresh-rows-requires
-refresh-rows-requires c =
+pub refresh-named-requires : goal.refresh-named-requires
+refresh-named-requires c =
     record {
       texts = c.requires.texts;
       canvas = (
@@ -36,4 +36,4 @@ pub returns : goal.returns
 returns c =
     λ recall held sound fit.
     shows-so _ _ _ _ _ c.requires.texts c.requires.w_value.0 c.requires.w_value.1 _ (c.cursor-spot.ensures _ c.requires.texts) _ c.follow-g.ensures _
-    _ _ c.refresh-rows.ensures recall held sound
+    _ _ c.refresh-named.ensures recall held sound

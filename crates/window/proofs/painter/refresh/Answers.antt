@@ -20,5 +20,5 @@ returns c =
     let frame = ap (λ t. t.frame) c.paint_text.ensures ∙ fresh.1.0 in
     let painted = rw (fresh.1.0, fresh.1.1) at (ap sheet_of c.paint_text.ensures) in
     let finished = rw frame at (ap sheet_of c.finish.ensures) in
-    let done = refreshed (all-painted c.requires.texts c.requires.canvas painted) finished c.named_rows.ensures.0 in
+    let done = refreshed (all-painted c.requires.texts c.requires.canvas painted) finished in
     search rules
