@@ -179,12 +179,7 @@ fn match_across(d: View<'_>, n: usize, pattern: &[u8]) -> Option<usize>
     ensures { result ≡ nearest (match_left pattern.now (length d.entry.l.now) (content (seen d.entry))) n 1 }
 {
     let l = d.l.len();
-    for far in 1..n + 1 {
-        if text_begins(d, l - far, pattern) {
-            return Some(far);
-        }
-    }
-    None
+    (1..n + 1).find(|&far| text_begins(d, l - far, pattern))
 }
 
 // The distance to the nearest match on the left. Those that begin at least as far away as the pattern is long lie left of the cursor.
