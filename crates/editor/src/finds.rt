@@ -121,12 +121,7 @@ fn first_match(
     requires k_in_bounds { k < length pattern.now }
     ensures { result ≡ nearest (match_away way pattern.now t.now) (to - from) from }
 {
-    for d in from..to {
-        if match_away(way, t, d, pattern, k) {
-            return Some(d);
-        }
-    }
-    None
+    (from..to).find(|&d| match_away(way, t, d, pattern, k))
 }
 
 // The nearest match of those that begin d to d + 31 bytes away: most blocks can have none.
