@@ -21,6 +21,7 @@ pub mod Quotation
 pub mod Refusals
 pub mod Replies
 pub mod Neighbours
+pub mod Found
 pub mod PlaceScans
 pub mod HandedOver
 pub mod Fitting

@@ -121,12 +121,7 @@ fn first_match(
     requires k_in_bounds { k < length pattern.now }
     ensures { result ≡ nearest (match_away way pattern.now t.now) (to - from) from }
 {
-    for d in from..to {
-        if match_away(way, t, d, pattern, k) {
-            return Some(d);
-        }
-    }
-    None
+    (from..to).find(|&d| match_away(way, t, d, pattern, k))
 }
 
 // The nearest match of those that begin d to d + 31 bytes away: most blocks can have none.
@@ -179,12 +174,7 @@ fn match_across(d: View<'_>, n: usize, pattern: &[u8]) -> Option<usize>
     ensures { result ≡ nearest (match_left pattern.now (length d.entry.l.now) (content (seen d.entry))) n 1 }
 {
     let l = d.l.len();
-    for far in 1..n + 1 {
-        if text_begins(d, l - far, pattern) {
-            return Some(far);
-        }
-    }
-    None
+    (1..n + 1).find(|&far| text_begins(d, l - far, pattern))
 }
 
 // The distance to the nearest match on the left. Those that begin at least as far away as the pattern is long lie left of the cursor.

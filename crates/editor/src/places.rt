@@ -103,8 +103,7 @@ pub fn stands(place: Place, way: Direction, t: &[u8], p: usize) -> bool
     }
 }
 
-// The distance over the text that lies in the direction, byte by byte as far as the place. `find` over the range would have its closure say of
-// each number, in a clause of its own, that it lies in the range; so do the two loops of finds.rt.
+// The distance over the text that lies in the direction, byte by byte as far as the place.
 fn scan(place: Place, way: Direction, t: &[u8]) -> Option<usize>
     ensures { (other : List ℕ) → result ≡ distance way (is_at place way) (facing way t.now other) }
 {

@@ -1,21 +1,18 @@
--- `editor::finds::first_match` meets its contract: no place before d has a match.
-use mathlib.Core.Path.{sym, ◌∙◌}
+-- `editor::finds::first_match` meets its contract: `find` answers the least distance at which a match begins.
+use mathlib.Core.Path.{◌≡◌}
+use mathlib.Core.Bool.{true, false}
+use Prim.Native.Nat.{◌-◌}
 use native.Mathlib.Omega.{arith}
-use Rattle.gap.proofs.Laws.Scans.{scan-start, scan-found, scan-more, scan-none}
-use Rattle.editor.proofs.Laws.MatchScans.{reach-part}
+use borrow.Author.Rules.{rules}
+use borrow.Author.Tests.{tests}
+use Rattle.std.proofs.lemmas.Iterator.{first_from_Range}
+use Rattle.editor.specs.Wording.Searches.{match_away}
+use Rattle.editor.proofs.Laws.Found.{found-nearest}
 use Rattle.editor.proofs.finds.first_match.Goals as goal
 
-pub loop-d-init : goal.loop-d-init
-loop-d-init c = (omega arith, scan-start _ _ _)
-
-pub match_away-requires : goal.match_away-requires
-match_away-requires c = record { reach = reach-part c.requires.reach (omega arith) (omega arith) (omega arith); k_in_bounds = c.requires.k_in_bounds }
-
-pub returns-then-match_away : goal.returns-then-match_away
-returns-then-match_away c = scan-found _ _ _ _ c.loop-d.invariant.1 (omega arith) (sym c.match_away.ensures ∙ c.if-match_away.true)
-
-pub loop-d-preserved : goal.loop-d-preserved
-loop-d-preserved c = (omega arith, scan-more _ _ _ _ c.loop-d.invariant.1 (omega arith) (sym c.match_away.ensures ∙ c.if-match_away.false))
-
 pub returns : goal.returns
-returns c = scan-none _ _ _ _ c.loop-d.invariant.1 (omega arith)
+returns c =
+    let test = match_away c.args.way c.args.pattern.now c.args.t.now in
+    found-nearest test (c.args.to - c.args.from) c.args.from _ (omega (arith, c.requires.reach.order)) _
+    (first_from_Range _ _ _ _ (λ d. test d ≡ true) (λ d. test d ≡ false) c.find.ensures.ran
+    (λ x q k. search (rules, tests)) (λ x q k. search (rules, tests)))

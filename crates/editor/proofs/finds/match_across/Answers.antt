@@ -1,22 +1,20 @@
--- `editor::finds::match_across` meets its contract: no distance below `far` leads to a match.
-use mathlib.Core.Path.{sym, ◌∙◌}
+-- `editor::finds::match_across` meets its contract: `find` answers the least distance that leads to a match.
+use mathlib.Core.Path.{◌≡◌}
+use mathlib.Core.Bool.{true, false}
 use native.Mathlib.Omega.{arith}
-use Rattle.gap.proofs.Laws.Scans.{scan-start, scan-found, scan-more, scan-none}
+use lib.ListN.{length}
+use borrow.Author.Rules.{rules}
+use borrow.Author.Tests.{tests}
+use Rattle.std.proofs.lemmas.Iterator.{first_from_Range}
+use Rattle.gap.specs.Rules.Doc.{content}
 use Rattle.gap.specs.Wording.Views.{seen}
+use Rattle.editor.specs.Wording.Searches.{match_left}
+use Rattle.editor.proofs.Laws.Found.{found-nearest}
 use Rattle.editor.proofs.finds.match_across.Goals as goal
 
-pub loop-far-init : goal.loop-far-init
-unfolding seen
-loop-far-init c = scan-start _ _ _
-
-pub returns-then-text_begins : goal.returns-then-text_begins
-unfolding seen
-returns-then-text_begins c = scan-found _ _ _ _ c.loop-far.invariant (omega arith) (sym c.text_begins.ensures ∙ c.if-text_begins.true)
-
-pub loop-far-preserved : goal.loop-far-preserved
-unfolding seen
-loop-far-preserved c = scan-more _ _ _ _ c.loop-far.invariant (omega arith) (sym c.text_begins.ensures ∙ c.if-text_begins.false)
-
 pub returns : goal.returns
-unfolding seen
-returns c = scan-none _ _ _ _ c.loop-far.invariant (omega arith)
+returns c =
+    let test = match_left c.args.pattern.now (length c.args.d.l.now) (content (seen c.args.d)) in
+    found-nearest test c.args.n 1 _ (omega arith) _
+    (first_from_Range _ _ _ _ (λ far. test far ≡ true) (λ far. test far ≡ false) c.find.ensures.ran
+    (λ x q k. search (rules, tests)) (λ x q k. search (rules, tests)))
