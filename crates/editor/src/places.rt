@@ -4,7 +4,7 @@ ghost use Rattle.gap.specs.Rules.Nearest.{distance};
 ghost use Rattle.gap.specs.Wording.Views.{seen};
 ghost use Rattle.editor.specs.Rules.Places.{neighbour_of, word, is_at};
 ghost use Rattle.editor.specs.Wording.Promise.{whole_of};
-ghost use Rattle.editor.specs.Wording.Searches.{beside, line_end, facing};
+ghost use Rattle.editor.specs.Wording.Searches.{lowest, beside, line_end, facing};
 
 use crate::finds::lowest_place;
 use crate::{Neighbour, Place};
@@ -103,18 +103,22 @@ pub fn stands(place: Place, way: Direction, t: &[u8], p: usize) -> bool
     }
 }
 
+// The place that lies d bytes away in the text of the direction is such a place.
+fn stands_away(place: Place, way: Direction, t: &[u8], d: usize) -> bool
+    requires { d ≤ length t.now }
+    ensures { result ≡ is_at place way (record {
+        l = take (lowest way (length t.now) d d) t.now;
+        r = drop (lowest way (length t.now) d d) t.now;
+    }) }
+{
+    stands(place, way, t, lowest_place(way, t.len(), d, d))
+}
+
 // The distance over the text that lies in the direction, byte by byte as far as the place.
 fn scan(place: Place, way: Direction, t: &[u8]) -> Option<usize>
     ensures { (other : List ℕ) → result ≡ distance way (is_at place way) (facing way t.now other) }
 {
-    let n = t.len();
-    for d in 1..n + 1 {
-        let p = lowest_place(way, n, d, d);
-        if stands(place, way, t, p) {
-            return Some(d);
-        }
-    }
-    None
+    (1..t.len() + 1).find(|&d| stands_away(place, way, t, d))
 }
 
 // The distance over all of a text.

@@ -1,24 +1,20 @@
--- `scan`: fewer than d moves reach no place, so that those from d on decide.
-use mathlib.Core.Path.{◌∙◌}
+-- `scan`: `find` answers the least distance that leads to a place.
+use mathlib.Core.Path.{◌≡◌, ◌∙◌}
+use mathlib.Core.Bool.{true, false}
 use native.Mathlib.Omega.{arith}
-use Rattle.gap.proofs.Laws.Scans.{scan-start, scan-found, scan-more, scan-none}
-use Rattle.editor.proofs.Laws.PlaceScans.{distance-away, stands-away, lowest-within}
+use lib.ListN.{length}
+use borrow.Author.Rules.{rules}
+use borrow.Author.Tests.{tests}
+use Rattle.std.proofs.lemmas.Iterator.{first_from_Range}
+use Rattle.editor.proofs.Laws.Found.{found-nearest}
+use Rattle.editor.proofs.Laws.PlaceScans.{place_away, distance-away}
 use Rattle.editor.proofs.places.scan.Goals as goal
 
-pub loop-d-init : goal.loop-d-init
-loop-d-init c = scan-start _ _ _
-
-pub stands-requires : goal.stands-requires
-stands-requires c = rw c.lowest_place-p.ensures (lowest-within c.args.way _ _ (omega arith))
-
-pub returns-then-stands : goal.returns-then-stands
-returns-then-stands c =
-    λ other. scan-found _ _ _ _ c.loop-d.invariant (omega arith)
-    ((stands-away _ _ _ _ _ c.lowest_place-p.ensures c.stands.ensures) ∙ c.if-stands.true) ∙ distance-away _ _ other _
-
-pub loop-d-preserved : goal.loop-d-preserved
-loop-d-preserved c =
-    scan-more _ _ _ _ c.loop-d.invariant (omega arith) ((stands-away _ _ _ _ _ c.lowest_place-p.ensures c.stands.ensures) ∙ c.if-stands.false)
-
 pub returns : goal.returns
-returns c = λ other. scan-none _ _ _ _ c.loop-d.invariant (omega arith) ∙ distance-away _ _ other _
+returns c =
+    let test = place_away c.args.place c.args.way c.args.t.now in
+    λ other.
+    found-nearest test (length c.args.t.now) 1 _ (omega arith) _
+    (first_from_Range _ _ _ _ (λ d. test d ≡ true) (λ d. test d ≡ false) c.find.ensures.ran
+    (λ x q k. search (rules, tests)) (λ x q k. search (rules, tests)))
+    ∙ distance-away _ _ other _
