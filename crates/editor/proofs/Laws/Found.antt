@@ -1,4 +1,4 @@
--- Laws of `find` over a range: what it answers is the nearest number that passes the test.
+-- What `find` answers over a range is the nearest number that passes the test.
 use Rattle.std.proofs.Common.{Option, Some, None}
 use Rattle.std.specs.Prelude.{MatchOption}
 use mathlib.Core.Path.{◌≡◌, sym}

@@ -166,14 +166,6 @@ module _ (place : Place) (t other : List ℕ) where
   pub distance-whole : (way : Direction) → whole_of (length t) ≡ distance way (is_at Document way) (facing way t other)
   distance-whole way = ap whole_of (room-facing way) ∙ distance-end way (facing way t other)
 
-pub stands-away : (place : Place) (way : Direction) (t : List ℕ) (d p : ℕ) {ok : Bool} → p ≡ lowest way (length t) d d
-    → ok ≡ is_at place way (cut_at p t) → place_away place way t d ≡ ok
-stands-away place way t d p e tested = sym (tested ∙ ap (λ p. is_at place way (cut_at p t)) e)
-
-pub lowest-within : (way : Direction) (n d : ℕ) → d ≤ n → lowest way n d d ≤ n
-lowest-within Left n d h = omega arith
-lowest-within Right n d h = h
-
 -- So it is in a document, by the text that lies in the direction.
 pub found-toward : (place : Place) (way : Direction) {found : Option ℕ} (d : Doc)
     → ((other : List ℕ) → found ≡ distance way (is_at place way) (facing way (toward way d) other)) → found ≡ distance way (is_at place way) d

@@ -57,13 +57,6 @@ module _ (test : ℕ → Bool) (n k : ℕ) where
     pub scan-found : d < k + n → test d ≡ true → Some d ≡ nearest test n k
     scan-found more e = sym (so_far.rest ∙ first test _ d (omega arith) ∙ cond-true _ _ e)
 
-    pub scan-more : d < k + n → test d ≡ false → Scan test n k (d + 1)
-    scan-more more e =
-        let one_less : k + n - d - 1 ≡ k + n - (d + 1) = omega arith in record {
-          within = omega arith;
-          rest = so_far.rest ∙ first test _ d (omega arith) ∙ cond-false _ _ e ∙ ap (λ m. nearest test m (d + 1)) one_less;
-        }
-
     pub scan-none : k + n ≤ d → None ≡ nearest test n k
     unfolding nearest
     scan-none end = let none : k + n - d ≡ 0 = omega arith in sym (so_far.rest ∙ ap (λ m. nearest test m d) none)
