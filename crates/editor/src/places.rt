@@ -107,8 +107,8 @@ pub fn stands(place: Place, way: Direction, t: &[u8], p: usize) -> bool
 fn stands_away(place: Place, way: Direction, t: &[u8], d: usize) -> bool
     requires { d ≤ length t.now }
     ensures { result ≡ is_at place way (record {
-        l = take (lowest way (length t.now) d d) t.now;
-        r = drop (lowest way (length t.now) d d) t.now;
+      l = take (lowest way (length t.now) d d) t.now;
+      r = drop (lowest way (length t.now) d d) t.now;
     }) }
 {
     stands(place, way, t, lowest_place(way, t.len(), d, d))
