@@ -21,6 +21,7 @@ use Rattle.std.proofs.lemmas.List.Sums.{sum_by-drop_more}
 use Rattle.bench.specs.Wording.Entries.{entries_of, room_of}
 use Rattle.gap.proofs.Laws.Writers.{wrote_none, then, wrote-length}
 use Rattle.window.proofs.Laws.Paint.{row_fits}
+use Rattle.window.specs.declared.Rows.{Rows}
 use Rattle.window.specs.Rules.Core.{Answer}
 use Rattle.bench.specs.Rules.Print.{rows_of, accepted_block}
 use Rattle.bench.specs.Wording.Turns.{Printable}
@@ -129,16 +130,19 @@ as_bit true = refl
 as_bit false = refl
 
 -- The block of an accepted call: its entries, and the rows behind them.
-pub accepted-wrote : (h w : ℕ) (a : Answer) (screen : List ℕ) {bell rows_at next : ℕ} {old mid new : List ℕ} → bell ≡ from_bool a.report.bell
+pub accepted-wrote : (h w : ℕ) (a : Answer) (screen : List ℕ) {bell rows_at next : ℕ} {named : Rows} {old mid new : List ℕ}
+    → bell ≡ from_bool a.report.bell → named ≡ record { first = a.first; last = a.last }
     → Wrote 0 (entry (bytes "code=") 0
     ++ (entry (bytes "steps=") a.report.steps
     ++ (entry (bytes "lines=") a.report.lines
     ++ (entry (bytes "bell=") bell
-    ++ (entry (bytes "first=") a.first
-    ++ (entry (bytes "last=") a.last
+    ++ (entry (bytes "first=") named.first
+    ++ (entry (bytes "last=") named.last
     ++ (entry (bytes "row=") a.row ++ (entry (bytes "col=") a.column ++ [])))))))) old rows_at mid
     → Wrote rows_at (rows_of h w screen) mid next new
     → Wrote 0 (accepted_block h w a screen) old next new
 unfolding accepted_block
-accepted-wrote h w a screen rings entries_are rows_are =
-    rw (← as_bit a.report.bell, ← rings) (simp append_assoc at (then entries_are rows_are))
+accepted-wrote h w a screen {named = named} rings names entries_are rows_are =
+    let first : named.first ≡ a.first = ap (λ r. r.first) names in
+    let last : named.last ≡ a.last = ap (λ r. r.last) names in
+    rw (← as_bit a.report.bell, ← rings, ← first, ← last) (simp append_assoc at (then entries_are rows_are))

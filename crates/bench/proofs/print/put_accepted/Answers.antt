@@ -12,4 +12,5 @@ put_rows-requires-clause-screen_in_bounds c =
 
 pub returns : goal.returns
 unfolding bytes
-returns c = accepted-wrote _ _ (accepted_reply c.args.a).answer _ c.from.ensures c.put_entries-rows_at.ensures.wrote c.put_rows.ensures
+returns c =
+    accepted-wrote _ _ (accepted_reply c.args.a).answer _ c.from.ensures c.rows-rows.ensures c.put_entries-rows_at.ensures.wrote c.put_rows.ensures
