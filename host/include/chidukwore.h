@@ -1,6 +1,6 @@
 /*
  * Chidukwore: a proved deck editor core for bench terminals. A C program needs this header and libwindow.a, which is for Linux on x86-64
- * and calls memcpy, memmove and memset, and nothing else.
+ * and calls memmove and memset, and nothing else.
  *
  * The core keeps nothing between calls. The host owns five stores of bytes and a record; each call is lent the stores, is handed the
  * record by value and hands one back. Between calls the host hands record and stores on untouched: it reads them, and writes none of
