@@ -1,9 +1,10 @@
 // The opening call and the key call: every record, every five stores and every key get an answer.
-ghost use Rattle.std.specs.Prelude.{◌≡◌, true, ◌*◌, ◌≤◌, length};
+ghost use Rattle.std.specs.Prelude.{◌≡◌, true, ◌*◌, ◌≤◌, length, IfOk};
 ghost use Rattle.editor.specs.Rules.Bytes.{quarter, sized};
 ghost use Rattle.editor.specs.Wording.Promise.{stores, editor_done};
 ghost use Rattle.editor.specs.Wording.Stores.{stores_as, SameStores};
 ghost use Rattle.window.specs.Rules.Core.{rows_and_columns, tabled, opened_text};
+ghost use Rattle.window.specs.Wording.Painter.{FromOne};
 ghost use Rattle.window.specs.Wording.Promise.{OpenPromise, KeyPromise};
 ghost use Rattle.window.specs.Wording.Calls.{newlines_left, session_test, Texts, lent_as, called, accepted_reply, Openable, open_reply, key_reply, Shows};
 
@@ -88,6 +89,7 @@ fn open_sound(n: usize, h: usize, w: usize, lent: &mut Stores, screen: &mut [u8]
     requires screen_value { tabled h w (lent_as lent.old screen.old) ≡ true }
     requires n_in_bounds { n ≤ length lent.old.text.now }
     ensures opens { called (accepted_reply result) (lent_as lent.new screen.new) ≡ opened_text n h w (lent_as lent.old screen.old) }
+    ensures from_one { FromOne result.named }
     ensures same { SameStores lent.old lent.new }
 {
     let frame = Frame { r: 0, c: 0, h, w };
@@ -134,6 +136,7 @@ pub fn open(
     screen: &mut [u8],
 ) -> Result<Accepted, Unopened>
     ensures answers { OpenPromise n h w (lent_as lent.old screen.old) (called (open_reply result) (lent_as lent.new screen.new)) }
+    ensures from_one { IfOk result (λ a. FromOne a.named) }
     ensures same { SameStores lent.old lent.new }
 {
     openable(n, h, w, lent, screen)?;
@@ -154,7 +157,8 @@ fn show(
     requires texts { Texts done.lengths text.now side.now }
     requires above_value { above ≡ newlines_left done.lengths.main.l text.now }
     requires w_value { (rows_and_columns f.h f.w ≡ true) × (length screen.old ≡ f.h * f.w) }
-    ensures { Shows (accepted_reply result) f (editor_done done) text.now side.now screen.old screen.new }
+    ensures shows { Shows (accepted_reply result) f (editor_done done) text.now side.now screen.old screen.new }
+    ensures from_one { FromOne result.named }
 {
     let spot = cursor(above, done.lengths, text, side);
     let g = follow(f, spot);
@@ -174,6 +178,7 @@ fn show(
 // The key call: SIZE, SESSION, KEY, FULL, LINE, or done.
 pub fn press(s: Session, k: Key, lent: &mut Stores, screen: &mut [u8]) -> Result<Accepted, Refusal>
     ensures answers { KeyPromise s k (lent_as lent.old screen.old) (called (key_reply s result) (lent_as lent.new screen.new)) }
+    ensures from_one { IfOk result (λ a. FromOne a.named) }
     ensures same { SameStores lent.old lent.new }
 {
     if !tabled_stores(s.frame.h, s.frame.w, lent, screen) {

@@ -68,4 +68,4 @@ returns-clause-answers c =
     let known = (press-done c.args.s c.args.k (lent_as c.args.lent.now c.args.screen.now)
     (sym c.tabled_stores.ensures ∙ c.if-not-tabled_stores.false) (tested-session _ _ c.lent_test.ensures c.in-Some.is).0 _ _
     c.in_ok-done.ensures.edits (omega arith)) in
-    c.show.ensures _ _ known.sound known.fit ∙ known.shows
+    c.show.ensures.shows _ _ known.sound known.fit ∙ known.shows
