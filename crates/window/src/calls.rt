@@ -6,7 +6,7 @@ ghost use Rattle.editor.specs.Wording.Stores.{stores_as, SameStores};
 ghost use Rattle.window.specs.Rules.Core.{rows_and_columns, tabled, opened_text};
 ghost use Rattle.window.specs.Wording.Painter.{FromOne};
 ghost use Rattle.window.specs.Wording.Promise.{OpenPromise, KeyPromise};
-ghost use Rattle.window.specs.Wording.Calls.{newlines_left, session_test, Texts, lent_as, called, accepted_reply, Openable, open_reply, key_reply, Shows};
+ghost use Rattle.window.specs.Wording.Calls.{newlines_left, session_test, Texts, lent, lent_as, called, accepted_reply, Openable, open_reply, key_reply, Shows};
 
 use crate::cursor::{cursor, follow, is_visible, newlines_left, newlines_now};
 use crate::painter::refresh;
@@ -29,19 +29,36 @@ pub fn rows_and_columns(h: usize, w: usize) -> bool
 }
 
 // All lengths are as tabled. H and W are known to be small before they are multiplied.
-pub fn tabled_stores(h: usize, w: usize, lent: &Stores, screen: &[u8]) -> bool
-    ensures { result ≡ tabled h w (lent_as lent.now screen.now) }
+pub fn tabled_stores(
+    h: usize,
+    w: usize,
+    text: &[u8],
+    recall: &[u8],
+    held: &[u8],
+    side: &[u8],
+    screen: &[u8],
+) -> bool
+    ensures { result ≡ tabled h w (lent text.now recall.now held.now side.now screen.now) }
 {
     if !rows_and_columns(h, w) {
         return false;
     }
-    sized_stores(
-        QUARTER,
+    sized_stores(QUARTER, text, recall, held, side) & (screen.len() == h * w)
+}
+
+// The same of stores that are lent together.
+fn lent_tabled(h: usize, w: usize, lent: &Stores, screen: &[u8]) -> bool
+    ensures { result ≡ tabled h w (lent_as lent.now screen.now) }
+{
+    tabled_stores(
+        h,
+        w,
         &*lent.text,
         &*lent.recall,
         &*lent.held,
         &*lent.side,
-    ) & (screen.len() == h * w)
+        screen,
+    )
 }
 
 // Whether record and stores are a session in quarters of q bytes. The newlines counted on the way are handed on.
@@ -111,7 +128,7 @@ fn open_sound(n: usize, h: usize, w: usize, lent: &mut Stores, screen: &mut [u8]
 fn openable(n: usize, h: usize, w: usize, lent: &Stores, screen: &[u8]) -> Result<(), Unopened>
     ensures { Openable result n h w (lent_as lent.now screen.now) }
 {
-    if !tabled_stores(h, w, lent, screen) {
+    if !lent_tabled(h, w, lent, screen) {
         return Err(Unopened::Size);
     }
     let text = &*lent.text;
@@ -181,7 +198,7 @@ pub fn press(s: Session, k: Key, lent: &mut Stores, screen: &mut [u8]) -> Result
     ensures from_one { IfOk result (λ a. FromOne a.named) }
     ensures same { SameStores lent.old lent.new }
 {
-    if !tabled_stores(s.frame.h, s.frame.w, lent, screen) {
+    if !lent_tabled(s.frame.h, s.frame.w, lent, screen) {
         return Err(Refusal::Size);
     }
     let Some(above) = lent_test(s, lent) else {
