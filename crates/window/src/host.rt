@@ -244,9 +244,9 @@ const ZEROS: Record = Record {
     mark: NO_MARK,
 };
 
-// A refused opening.
+// A refused opening in numbers: a record of zeros.
 #[tactic(auto, unfolding(crate::specs::Rules::Host::no_mark))]
-fn unopened(why: Unopened) -> HostReply
+pub fn unopened(why: Unopened) -> HostReply
     ensures { result ≡ numbers_of (unopened_of why) }
 {
     bare(why.refusal().number(), why.place(), ZEROS)
