@@ -1,5 +1,6 @@
 -- The types and cases that the definitions of this layer speak with, passed on in one place.
 pub use Rattle.std.specs.Prelude.{Option, Some, None, Result, Ok, Err}
+pub use Rattle.std.proofs.Common.{ControlFlow, Continue, Break}
 pub use Rattle.gap.specs.declared.Direction.{Direction}
 pub use Rattle.gap.specs.declared.Direction.TheVariants.{Left, Right}
 pub use Rattle.editor.specs.declared.Action.{Action}

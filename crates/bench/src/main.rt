@@ -17,6 +17,7 @@ use editor::stores::Stores;
 use editor::{Key, QUARTER};
 use std::io;
 use std::io::Read;
+use std::ops::ControlFlow;
 use window::Session;
 
 // What the four header lines say, and where the text stands in the input.
@@ -44,18 +45,18 @@ pub enum Reading {
     Unknown,
 }
 
-// What the program goes on from: the place of the next line, and the record.
+// What a turn hands on: the place of the next line, and the record.
 #[derive(Clone, Copy)]
 pub struct Next {
     pub at: usize,
     pub session: Session,
 }
 
-// What a turn leaves: how many bytes are to be printed, and what the program goes on from, if it does.
+// What a turn leaves: how many bytes are to be printed, and what the program goes on from, or ends with.
 #[derive(Clone, Copy)]
 pub struct Turn {
     pub printed: usize,
-    pub next: Option<Next>,
+    pub next: ControlFlow<Next, Next>,
 }
 
 // The input goes to the front of the buffer, until that is full or the input ends: how many bytes there are. After an error the bytes
@@ -100,7 +101,7 @@ fn play(
 {
     let mut turn = opening(h, input, lent, screen, out);
     write_front(rt, out, turn.printed)?;
-    while let Some(next) = turn.next {
+    while let ControlFlow::Continue(next) = turn.next {
         turn = next_turn(next, input, lent, screen, out);
         write_front(rt, out, turn.printed)?;
     }

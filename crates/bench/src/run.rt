@@ -3,7 +3,9 @@ ghost use Rattle.std.specs.Prelude.{◌≡◌, ◌+◌, ◌≤◌, ◌<◌, leng
 ghost use Rattle.gap.specs.Rules.Sequence.{part, patch};
 ghost use Rattle.gap.specs.Wording.Written.{Wrote};
 ghost use Rattle.editor.specs.Wording.Stores.{SameStores};
+ghost use Rattle.window.specs.Rules.Core.{zero_record};
 ghost use Rattle.window.specs.Wording.Calls.{lent_as};
+ghost use Rattle.bench.specs.Words.{Continue};
 ghost use Rattle.bench.specs.Rules.Run.{unless_large, beginning, screen_size, opening_turn, pressed_turn, next_turn};
 ghost use Rattle.bench.specs.Wording.Turns.{state_from, Does, Onward};
 
@@ -11,10 +13,12 @@ use crate::print::{put_accepted, put_refused, put_script};
 use crate::script::{heading_of, reading_at};
 use crate::{Broken, Header, Next, Reading, Turn};
 use editor::Key;
+use editor::records::opening_lengths;
 use editor::stores::Stores;
 use gap::fields::line_number;
-use window::Session;
+use std::ops::ControlFlow;
 use window::calls::{open, press, rows_and_columns};
+use window::{Frame, Session};
 
 // The most bytes that a script may have, and the largest store that it may ask for.
 const LONGEST_INPUT: usize = 8192;
@@ -60,6 +64,21 @@ fn lay_out(input: &[u8], at: usize, n: usize, text: &mut [u8])
     text[..size].copy_from_slice(&input[at..at + size]);
 }
 
+// The record that a refused opening hands on: zeros, with no mark.
+fn zero_record() -> Session
+    ensures { result ≡ zero_record }
+{
+    Session {
+        lengths: opening_lengths(0),
+        frame: Frame {
+            r: 0,
+            c: 0,
+            h: 0,
+            w: 0,
+        },
+    }
+}
+
 // The text is laid out and opened. A refused opening is the last turn.
 #[tactic(auto, unfolding(crate::specs::Rules::Run::opening_turn, crate::specs::Rules::Print::block))]
 pub fn opening(
@@ -74,22 +93,29 @@ pub fn opening(
     ensures does { Does (opening_turn h input.now (lent_as lent.old screen.old)) result (lent_as lent.new screen.new) out.old out.new }
     ensures same { SameStores lent.old lent.new }
 {
+    let at = h.at + h.length + 1;
     lay_out(input, h.at, h.length, &mut *lent.text);
     match open(h.length, h.rows, h.columns, lent, screen) {
         Ok(accepted) => {
             let next = Next {
-                at: h.at + h.length + 1,
+                at,
                 session: accepted.session,
             };
             Turn {
                 printed: put_accepted(accepted, h.rows, h.columns, screen, out),
-                next: Some(next),
+                next: ControlFlow::Continue(next),
             }
         }
-        Err(why) => Turn {
-            printed: put_refused(why.refusal(), why.place(), out),
-            next: None,
-        },
+        Err(why) => {
+            let last = Next {
+                at,
+                session: zero_record(),
+            };
+            Turn {
+                printed: put_refused(why.refusal(), why.place(), out),
+                next: ControlFlow::Break(last),
+            }
+        }
     }
 }
 
@@ -105,7 +131,7 @@ fn press_turn(
 ) -> Turn
     requires { 17408 ≤ length out.old }
     ensures does { Does (pressed_turn session key at (lent_as lent.old screen.old)) result (lent_as lent.new screen.new) out.old out.new }
-    ensures onward { (then : Next) × (result.next ≡ Some then) × (then.at ≡ at) }
+    ensures onward { (then : Next) × (result.next ≡ Continue then) × (then.at ≡ at) }
     ensures same { SameStores lent.old lent.new }
 {
     match press(session, key, lent, screen) {
@@ -116,12 +142,12 @@ fn press_turn(
             };
             Turn {
                 printed: put_accepted(accepted, session.frame.h, session.frame.w, screen, out),
-                next: Some(next),
+                next: ControlFlow::Continue(next),
             }
         }
         Err(why) => Turn {
             printed: put_refused(why, 0, out),
-            next: Some(Next { at, session }),
+            next: ControlFlow::Continue(Next { at, session }),
         },
     }
 }
@@ -142,15 +168,17 @@ pub fn next_turn(
     ensures onward { Onward from (length input.now) result }
     ensures same { SameStores lent.old lent.new }
 {
+    // A last turn leaves place and record as they were.
+    let last = ControlFlow::Break(from);
     match reading_at(input, from.at) {
         Reading::Pressed(key, at) => press_turn(from.session, key, at, lent, screen, out),
         Reading::Finished => Turn {
             printed: 0,
-            next: None,
+            next: last,
         },
         Reading::Unknown => Turn {
             printed: put_script(line_number(input, from.at), out),
-            next: None,
+            next: last,
         },
     }
 }

@@ -15,7 +15,7 @@ pub fn run_begins(t: &[u8], at: usize, pattern: &[u8]) -> bool
     requires { at ≤ length t.now }
     ensures { result ≡ begins pattern.now (drop at t.now) }
 {
-    t[at..].starts_with(pattern)
+    begins_with(pattern, &t[at..])
 }
 
 // The word stands at the front.

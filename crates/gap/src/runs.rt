@@ -75,11 +75,15 @@ pub fn take_out(s: &mut [u8], at: usize, d: usize, pair: &mut [u8])
 }
 
 // A run of any length goes from one place to another, which may overlap, and its old place becomes 0. The run is copied first; then only
-// what its new place leaves bare of the old one has to be cleared: bytes at the front on the way up, else at the end.
+// what its new place leaves bare of the old one has to be cleared: bytes at the front on the way up, else at the end. At an empty gap the two
+// places are one, and nothing is done: `copy_within` would copy each byte onto itself, one by one.
 pub fn shift(s: &mut [u8], from: usize, to: usize, d: usize)
     requires { (from + d ≤ length s.old) × (to + d ≤ length s.old) }
     ensures { s.new ≡ patch to (part from d s.old) (patch from (zeros d) s.old) }
 {
+    if to == from {
+        return;
+    }
     s.copy_within(from..from + d, to);
     if from < to {
         let bare = d.min(to - from);

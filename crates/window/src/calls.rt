@@ -1,11 +1,12 @@
 // The opening call and the key call: every record, every five stores and every key get an answer.
-ghost use Rattle.std.specs.Prelude.{◌≡◌, true, ◌*◌, ◌≤◌, length};
+ghost use Rattle.std.specs.Prelude.{◌≡◌, true, ◌*◌, ◌≤◌, length, IfOk};
 ghost use Rattle.editor.specs.Rules.Bytes.{quarter, sized};
 ghost use Rattle.editor.specs.Wording.Promise.{stores, editor_done};
 ghost use Rattle.editor.specs.Wording.Stores.{stores_as, SameStores};
 ghost use Rattle.window.specs.Rules.Core.{rows_and_columns, tabled, opened_text};
+ghost use Rattle.window.specs.Wording.Painter.{FromOne};
 ghost use Rattle.window.specs.Wording.Promise.{OpenPromise, KeyPromise};
-ghost use Rattle.window.specs.Wording.Calls.{newlines_left, session_test, Texts, lent_as, called, accepted_reply, Openable, open_reply, key_reply, Shows};
+ghost use Rattle.window.specs.Wording.Calls.{newlines_left, session_test, Texts, lent, lent_as, called, accepted_reply, Openable, open_reply, key_reply, Shows};
 
 use crate::cursor::{cursor, follow, is_visible, newlines_left, newlines_now};
 use crate::painter::refresh;
@@ -28,19 +29,36 @@ pub fn rows_and_columns(h: usize, w: usize) -> bool
 }
 
 // All lengths are as tabled. H and W are known to be small before they are multiplied.
-pub fn tabled_stores(h: usize, w: usize, lent: &Stores, screen: &[u8]) -> bool
-    ensures { result ≡ tabled h w (lent_as lent.now screen.now) }
+pub fn tabled_stores(
+    h: usize,
+    w: usize,
+    text: &[u8],
+    recall: &[u8],
+    held: &[u8],
+    side: &[u8],
+    screen: &[u8],
+) -> bool
+    ensures { result ≡ tabled h w (lent text.now recall.now held.now side.now screen.now) }
 {
     if !rows_and_columns(h, w) {
         return false;
     }
-    sized_stores(
-        QUARTER,
+    sized_stores(QUARTER, text, recall, held, side) & (screen.len() == h * w)
+}
+
+// The same of stores that are lent together.
+fn lent_tabled(h: usize, w: usize, lent: &Stores, screen: &[u8]) -> bool
+    ensures { result ≡ tabled h w (lent_as lent.now screen.now) }
+{
+    tabled_stores(
+        h,
+        w,
         &*lent.text,
         &*lent.recall,
         &*lent.held,
         &*lent.side,
-    ) & (screen.len() == h * w)
+        screen,
+    )
 }
 
 // Whether record and stores are a session in quarters of q bytes. The newlines counted on the way are handed on.
@@ -88,6 +106,7 @@ fn open_sound(n: usize, h: usize, w: usize, lent: &mut Stores, screen: &mut [u8]
     requires screen_value { tabled h w (lent_as lent.old screen.old) ≡ true }
     requires n_in_bounds { n ≤ length lent.old.text.now }
     ensures opens { called (accepted_reply result) (lent_as lent.new screen.new) ≡ opened_text n h w (lent_as lent.old screen.old) }
+    ensures from_one { FromOne result.named }
     ensures same { SameStores lent.old lent.new }
 {
     let frame = Frame { r: 0, c: 0, h, w };
@@ -109,7 +128,7 @@ fn open_sound(n: usize, h: usize, w: usize, lent: &mut Stores, screen: &mut [u8]
 fn openable(n: usize, h: usize, w: usize, lent: &Stores, screen: &[u8]) -> Result<(), Unopened>
     ensures { Openable result n h w (lent_as lent.now screen.now) }
 {
-    if !tabled_stores(h, w, lent, screen) {
+    if !lent_tabled(h, w, lent, screen) {
         return Err(Unopened::Size);
     }
     let text = &*lent.text;
@@ -134,6 +153,7 @@ pub fn open(
     screen: &mut [u8],
 ) -> Result<Accepted, Unopened>
     ensures answers { OpenPromise n h w (lent_as lent.old screen.old) (called (open_reply result) (lent_as lent.new screen.new)) }
+    ensures from_one { IfOk result (λ a. FromOne a.named) }
     ensures same { SameStores lent.old lent.new }
 {
     openable(n, h, w, lent, screen)?;
@@ -154,7 +174,8 @@ fn show(
     requires texts { Texts done.lengths text.now side.now }
     requires above_value { above ≡ newlines_left done.lengths.main.l text.now }
     requires w_value { (rows_and_columns f.h f.w ≡ true) × (length screen.old ≡ f.h * f.w) }
-    ensures { Shows (accepted_reply result) f (editor_done done) text.now side.now screen.old screen.new }
+    ensures shows { Shows (accepted_reply result) f (editor_done done) text.now side.now screen.old screen.new }
+    ensures from_one { FromOne result.named }
 {
     let spot = cursor(above, done.lengths, text, side);
     let g = follow(f, spot);
@@ -174,9 +195,10 @@ fn show(
 // The key call: SIZE, SESSION, KEY, FULL, LINE, or done.
 pub fn press(s: Session, k: Key, lent: &mut Stores, screen: &mut [u8]) -> Result<Accepted, Refusal>
     ensures answers { KeyPromise s k (lent_as lent.old screen.old) (called (key_reply s result) (lent_as lent.new screen.new)) }
+    ensures from_one { IfOk result (λ a. FromOne a.named) }
     ensures same { SameStores lent.old lent.new }
 {
-    if !tabled_stores(s.frame.h, s.frame.w, lent, screen) {
+    if !lent_tabled(s.frame.h, s.frame.w, lent, screen) {
         return Err(Refusal::Size);
     }
     let Some(above) = lent_test(s, lent) else {

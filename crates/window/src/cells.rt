@@ -10,8 +10,8 @@ use crate::{Frame, Pen, Rows};
 // A row of blanks, as wide as a screen can be.
 const BLANKS: [u8; 256] = [b' '; 256];
 
-// A run of cells is written; answers whether one was another before. Where none was, nothing is. The library compares and copies at least
-// as fast as one pass that did both.
+// A run of cells is written; answers whether one was another before. Where none was, nothing is. Where all were, it takes three quarters of
+// the time of one pass that compares and writes; where each row's last cell alone was, up to a third more (docs/DESIGN-PASS.md, section 4).
 fn put_run(cells: &mut [u8], run: &[u8]) -> bool
     requires { length run.now ≡ length cells.old }
     ensures { (cells.new ≡ run.now) × (result ≡ not (same_bytes cells.old run.now)) }

@@ -244,9 +244,9 @@ const ZEROS: Record = Record {
     mark: NO_MARK,
 };
 
-// A refused opening.
+// A refused opening in numbers: a record of zeros.
 #[tactic(auto, unfolding(crate::specs::Rules::Host::no_mark))]
-fn unopened(why: Unopened) -> HostReply
+pub fn unopened(why: Unopened) -> HostReply
     ensures { result ≡ numbers_of (unopened_of why) }
 {
     bare(why.refusal().number(), why.place(), ZEROS)
@@ -308,18 +308,18 @@ pub fn chidukwore_key(
     let mode = n.mode;
     let rows = n.rows;
     let columns = n.columns;
+    if 1 < mode {
+        if tabled_stores(rows, columns, text, recall, held, side, screen) {
+            return refused(Refusal::Session, n);
+        }
+        return refused(Refusal::Size, n);
+    }
     let mut lent = Stores {
         text: &mut *text,
         recall: &mut *recall,
         held: &mut *held,
         side: &mut *side,
     };
-    if 1 < mode {
-        if tabled_stores(rows, columns, &lent, screen) {
-            return refused(Refusal::Session, n);
-        }
-        return refused(Refusal::Size, n);
-    }
     let k = key_from(kind, a, b, c);
     match press(Session::from(n), k, &mut lent, screen) {
         Ok(accepted) => in_numbers(accepted),

@@ -1,6 +1,6 @@
 // Keys from numbers: a kind and up to three numbers name one. What names none becomes an insert of byte 0, which is refused with KEY.
-ghost use Rattle.std.specs.Prelude.{◌≡◌, cond, leb, unwrap_or};
-ghost use Rattle.window.specs.Rules.Host.{none, direction_from, action_from, place_from, function_from, key_from};
+ghost use Rattle.std.specs.Prelude.{◌≡◌, ◌&&◌, cond, leb};
+ghost use Rattle.window.specs.Rules.Host.{direction_from, action_from, place_from, function_from, key_from, numbers, names};
 
 use editor::{Action, Key, Place};
 use gap::Direction;
@@ -40,14 +40,21 @@ fn place_of(p: usize) -> Option<Place>
     }
 }
 
+// The function key that three numbers name, if they name one.
+fn named_function(a: usize, d: usize, p: usize) -> Option<Key>
+    ensures { result ≡ cond (leb a 1 && (leb d 1 && leb p 4)) (Some (function_from a d p)) None }
+{
+    Some(Key::Function(action_of(a)?, direction_of(d)?, place_of(p)?))
+}
+
 // The key that a kind and three numbers name, if they name one.
 #[tactic(auto, unfolding(crate::specs::Rules::Host::key_from))]
 fn named_key(kind: usize, a: usize, b: usize, c: usize) -> Option<Key>
-    ensures { unwrap_or result none ≡ key_from kind a b c }
+    ensures { result ≡ cond (names (numbers kind a b c)) (Some (key_from kind a b c)) None }
 {
     match kind {
         0 => Some(Key::Insert(u8::try_from(a).ok()?)),
-        1 => Some(Key::Function(action_of(a)?, direction_of(b)?, place_of(c)?)),
+        1 => named_function(a, b, c),
         2 => Some(Key::Recall),
         3 => Some(Key::Quote),
         4 => Some(Key::Find(direction_of(a)?)),
@@ -69,9 +76,8 @@ pub fn key_from(kind: usize, a: usize, b: usize, c: usize) -> Key
 }
 
 // The function key that three numbers name, or that insert.
-#[tactic(auto, unfolding(crate::specs::Rules::Host::key_from))]
 pub fn function_key(a: usize, d: usize, p: usize) -> Key
     ensures { result ≡ function_from a d p }
 {
-    key_from(1, a, d, p)
+    named_function(a, d, p).unwrap_or(Key::Insert(0))
 }

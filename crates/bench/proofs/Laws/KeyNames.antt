@@ -18,7 +18,7 @@ use Rattle.gap.specs.Rules.Nearest.{nearest}
 use Rattle.gap.specs.Rules.Decimal.{number_of}
 use Rattle.bench.specs.Words.{Option, Some, None}
 use Rattle.bench.specs.Words.{Left, Right, Key, Recall, Quote, Find, Replace, Mark, Cut, Paste, Newline, Tab}
-use Rattle.bench.specs.Rules.Names.{Entry, name_of, combinations, combination_at, function_of, entry_of, at_row, function_named}
+use Rattle.bench.specs.Rules.Names.{Entry, combinations, combination_at, entry_of, at_row, function_named}
 use Rattle.bench.specs.Rules.Names.{most_digits, insert_numbered, indent_named, mark_named, key_named}
 use Rattle.bench.specs.Wording.Rows.{key_in}
 
@@ -72,13 +72,13 @@ searched name (row ∷ rows) =
 -- The rows of the function keys say what the rule of their names does: of n combinations from the k-th on, the first that has the name.
 module _ (name : List ℕ) where
   abbrev is_name : ℕ → Bool
-  is_name i = same_bytes name (name_of (combination_at i))
+  is_name i = same_bytes name (entry_of (combination_at i)).name
 
   from_row : ℕ → ℕ → Option Key
   from_row zero k = None
-  from_row (suc n) k = cond (is_name k) (Some (function_of (combination_at k))) (from_row n (suc k))
+  from_row (suc n) k = cond (is_name k) (Some (entry_of (combination_at k)).key) (from_row n (suc k))
 
-  at_first : (ok : Bool) (i : ℕ) (rest : Option ℕ) → at_row (cond ok (Some i) rest) ≡ cond ok (Some (function_of (combination_at i))) (at_row rest)
+  at_first : (ok : Bool) (i : ℕ) (rest : Option ℕ) → at_row (cond ok (Some i) rest) ≡ cond ok (Some (entry_of (combination_at i)).key) (at_row rest)
   at_first true i rest = refl
   at_first false i rest = refl
 
@@ -87,7 +87,7 @@ module _ (name : List ℕ) where
   nearest_row zero k = refl
   nearest_row (suc n) k =
       at_first (is_name k) k (nearest is_name n (suc k))
-      ∙ ap (cond (is_name k) (Some (function_of (combination_at k)))) (nearest_row n (suc k))
+      ∙ ap (cond (is_name k) (Some (entry_of (combination_at k)).key)) (nearest_row n (suc k))
 
   all_rows : from_row 20 0 ≡ looked_up name (map entry_of combinations)
   unfolding from_row looked_up combinations

@@ -9,7 +9,7 @@ use native.Mathlib.Nat.{zero-add, suc-add}
 use native.Mathlib.Omega.{arith}
 use lib.ListN.{length}
 use borrow.Author.Tests.{eq-eqb, ne_eqb}
-use Rattle.bench.specs.Words.{Ok, Key, Header, Reading, Pressed, Finished, Unknown}
+use Rattle.bench.specs.Words.{Ok, ControlFlow, Continue, Break, Key, Header, Reading, Pressed, Finished, Unknown}
 use Rattle.bench.specs.Rules.Script.{heading_of, reading_at}
 use Rattle.bench.specs.Rules.Print.{block, script_line}
 use Rattle.gap.specs.Rules.Fields.{line_number}
@@ -17,8 +17,9 @@ use Rattle.gap.proofs.Laws.Tests.{decided, cond-true}
 use Rattle.gap.proofs.Laws.Writers.{one_written}
 use Rattle.window.specs.declared.Session.{Session}
 use Rattle.window.specs.Rules.Core.{Lent, Called, opened, keyed}
+use Rattle.bench.specs.declared.Next.{Next}
 use Rattle.bench.specs.declared.Turn.{Turn}
-use Rattle.bench.specs.Wording.Turns.{Does}
+use Rattle.bench.specs.Wording.Turns.{goes_on, handed_on, state_of, Does}
 use Rattle.bench.specs.Rules.Run.{beginning, State, Turned, laid_out, opening_turn, pressed_turn, read, next_turn, turns, fresh, printed_from, output}
 use Rattle.bench.proofs.Laws.Scripts.{pressed-goes-on, headed-inside}
 use Rattle.bench.proofs.Laws.Beginnings.{begun-as}
@@ -139,10 +140,22 @@ unfolding next_turn turns
 each_turn n input t k next going e =
     ap (λ rest. t.printed ++ rest) (cond-true _ _ going ∙ ap (λ r. turns n input (read input t.state r)) e)
 
+-- What a turn hands on is told by its state.
+abbrev told : State → ControlFlow Next Next
+told s = let next : Next = record { at = s.at; session = s.session } in cond s.going (Continue next) (Break next)
+
+all-told : (t : Turn) (b : Lent) → t.next ≡ told (state_of t b)
+all-told t b = of t.next
+  where
+    of : (f : ControlFlow Next Next) → f ≡ told (record { going = goes_on f; at = (handed_on f).at; session = (handed_on f).session; lent = b })
+    of (Continue next) = refl
+    of (Break last) = refl
+
 -- Two turns of the code that do the same turn of the definitions are the same: what is left, the stores, and what is printed.
 pub one-turn : {turned : Turned} {t u : Turn} {b c : Lent} {old new other : List ℕ} → Does turned t b old new → Does turned u c old other
     → (t ≡ u) × (b ≡ c) × (new ≡ other)
-one-turn v w =
-    let next = v.next ∙ sym w.next in
+one-turn {turned} {t} {u} {b} {c} v w =
+    let left : state_of t b ≡ state_of u c = v.state ∙ sym w.state in
+    let next : t.next ≡ u.next = all-told t b ∙ ap told left ∙ sym (all-told u c) in
     let printed = one_written v.prints w.prints in
-    (λ i. record { printed = printed.0 i; next = next i }, v.stores ∙ sym w.stores, printed.1)
+    (λ i. record { printed = printed.0 i; next = next i }, ap (λ s. s.lent) left, printed.1)

@@ -64,11 +64,11 @@ entry_of c = record { name = name_of c; key = function_of c }
 -- ---- Any key
 
 abbrev pub at_row : Option ℕ → Option Key
-at_row (Some i) = Some (function_of (combination_at i))
+at_row (Some i) = Some (entry_of (combination_at i)).key
 at_row None = None
 
 unfoldable pub function_named : List ℕ → Option Key
-function_named name = at_row (nearest (λ i. same_bytes name (name_of (combination_at i))) 20 0)
+function_named name = at_row (nearest (λ i. same_bytes name (entry_of (combination_at i)).name) 20 0)
 
 -- How many digits a number may have. (01, the bench program: numbers.)
 abbrev pub most_digits : ℕ

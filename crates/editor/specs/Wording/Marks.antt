@@ -1,4 +1,5 @@
--- How the promises of the functions about the mark speak: the record with another mark or held text, and what a key changes, in numbers.
+-- How the promises of the functions about the mark speak: the record with another mark or held text, and what a key changes, in numbers. Laws
+-- alone use `held_reply`.
 use Rattle.std.specs.Prelude.{◌≡◌, ◌≤◌, Bool, true, false, cond, ℕ, ◌+◌, ◌-◌, eqb, Option}
 use Rattle.editor.specs.Words.{Direction, Left, Right, Mode, Main, Quoted, Move, Delete}
 use Rattle.editor.specs.Words.{Key, Insert, Function, Recall, Quote, Find, Replace, Mark, Cut, Paste, Newline, Tab}

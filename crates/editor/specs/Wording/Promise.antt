@@ -1,4 +1,4 @@
--- How the promises of this layer's functions speak: what they ask of lent stores, and their outcome as one value.
+-- How the promises of this layer's functions speak: what they ask of lent stores, and their outcome as one value. Laws alone use `reply_of`.
 use Rattle.std.specs.Prelude.{◌≡◌, ◌≤◌, List, [], ◌∷◌, Bool, true, cond, ℕ, ◌+◌, ◌-◌, ◌*◌, eqb, leb, length, take, Option, Some, None, Result, Ok, Err}
 use Rattle.editor.specs.Words.{Direction, Left, Right}
 use Rattle.editor.specs.Words.{Mode, Main, Quoted, Sizes, Lengths, Report}

@@ -1,4 +1,4 @@
--- Laws of the nearest number: what `nearest` answers is the least that passes, and it answers Nowhere exactly when none does.
+-- Laws of the nearest number: what `nearest` answers is the least that passes, and it answers None exactly when none does.
 use Rattle.std.proofs.Common.{Some, None}
 use mathlib.Core.Path.{◌≡◌, refl, sym, ap, ap₂, ◌∙◌}
 use mathlib.Core.Logic.{⊎_elim}

@@ -4,7 +4,7 @@ use mathlib.Core.List.{List, ◌++◌, append_assoc}
 use Prim.Native.Nat.{ℕ, ◌+◌, ◌-◌, ◌≤◌, ◌<◌, min}
 use native.Mathlib.Omega.{arith}
 use lib.Seq.{paste, drop-drop}
-use lib.ListN.{length, take, drop}
+use lib.ListN.{length, take, drop, take-append-drop}
 use Rattle.gap.specs.Rules.Sequence.{part, patch, zeros}
 use Rattle.gap.proofs.Laws.Sequence.{length_part, length-zeros}
 use Rattle.gap.proofs.Laws.Runs.{length-patch, zeros-both}
@@ -25,6 +25,18 @@ unfolding part patch
 slides s from to d fits =
     let size : from + d - from ≡ d = omega arith in
     rw (size, drop-drop, length_part from d s fits.0) (append_assoc (take to s) (take d (drop from s)) (drop (to + d) s))
+
+-- A run that is carried to where it stands changes nothing: the zeros are covered, and the run is put over itself.
+part-kept : (s : List ℕ) (a k : ℕ) → a + k ≤ length s → patch a (part a k s) s ≡ s
+unfolding part patch
+part-kept s a k fits = rw (length_part a k s fits, take-append-drop k (drop a s)) (take-append-drop a s)
+
+pub stays : (s : List ℕ) (from to d : ℕ) → from + d ≤ length s → to ≡ from → s ≡ carried from to d s
+stays s from to d fits here =
+    let run : length (part from d s) ≡ d = length_part from d s fits in
+    let cleared : length (zeros d) ≡ d = length-zeros d in
+    rw here
+    (sym (covered (zeros d) (part from d s) s from from (omega arith) (omega arith) (λ h. (omega arith, omega arith)) ∙ part-kept s from d fits))
 
 zeros-two : (n m k : ℕ) → n + m ≡ k → zeros k ≡ zeros n ++ zeros m
 zeros-two n m k e = sym (zeros-both n m ∙ ap zeros e)

@@ -1,4 +1,4 @@
--- The distance (01, plain editor): it is above 0, that many moves reach the place, no smaller number does; and it is Nowhere
+-- The distance (01, plain editor): it is above 0, that many moves reach the place, no smaller number does; and it is None
 -- exactly when no number of moves does.
 use Rattle.std.proofs.Common.{Some, None}
 use mathlib.Core.Path.{◌≡◌}

@@ -1,6 +1,6 @@
 -- What the host is given, in numbers, is what the core's calls give.
-use Rattle.std.specs.Prelude.{List, Bool, cond, ℕ}
-use mathlib.Core.Path.{◌≡◌, ap, sym, ◌∙◌}
+use Rattle.std.specs.Prelude.{List, Bool, true, false, cond, ℕ, Option, Some, None, unwrap_or}
+use mathlib.Core.Path.{◌≡◌, refl, ap, sym, ◌∙◌}
 use Prim.Native.Nat.{◌≤◌, ◌<◌}
 use borrow.Author.Tests.{le-leb, lt-leb}
 use Rattle.editor.specs.Rules.Refusals.{SIZE, SESSION}
@@ -11,7 +11,8 @@ use Rattle.window.specs.declared.host.HostReply.{HostReply}
 use Rattle.window.specs.Rules.Core.{Lent, refusal, tabled, opened, keyed}
 use Rattle.window.specs.Wording.Calls.{lent, called, turned_down_reply}
 use Rattle.window.specs.Rules.Host.{Given, session_from, record_from, key_from, said_of, given, numbers_of, given_of, host_opened, host_keyed}
-use Rattle.window.proofs.Theorems.OverAndBack.{record-over}
+use Rattle.window.specs.Rules.Host.{none, numbers, names}
+use Rattle.window.proofs.Theorems.OverAndBack.{record-over, unnamed}
 
 module _ {q : HostReply} (r : Reply) (now : Lent) (same : q ≡ numbers_of r) where
   pub opened-given : (n H W : ℕ) (b : Lent) → called r now ≡ opened n H W b → given q now ≡ host_opened n H W b
@@ -49,3 +50,15 @@ pub no-mode-given :
     given q before ≡ host_keyed n kind a b c before
 unfolding host_keyed
 no-mode-given n kind a b c before t mode e same = rw (lt-leb _ _ mode, ← e) (ap (λ q. given q before) same)
+
+-- The key that numbers name, or an insert that is refused where they name none, is the key that they are taken for.
+pub named-or-none :
+    (kind a b c : ℕ) {found : Option Key} {k : Key} →
+    found ≡ cond (names (numbers kind a b c)) (Some (key_from kind a b c)) None → k ≡ unwrap_or found none →
+    k ≡ key_from kind a b c
+named-or-none kind a b c named e = e ∙ (ap (λ o. unwrap_or o none) named ∙ go (names (numbers kind a b c)) refl)
+  where
+    go : (is : Bool) → names (numbers kind a b c) ≡ is
+        → unwrap_or (cond is (Some (key_from kind a b c)) None) none ≡ key_from kind a b c
+    go true e = refl
+    go false e = sym (unnamed (numbers kind a b c) e)

@@ -15,7 +15,7 @@ use Rattle.gap.proofs.Laws.Compared.{same_parts}
 use Rattle.window.specs.Words.{Frame}
 use Rattle.window.specs.Rules.Rows.{changed, first_row, last_row}
 use Rattle.window.specs.declared.Rows.{Rows}
-use Rattle.window.specs.Wording.Painter.{Sheet, begun, put, with_row, row_below, rows_in}
+use Rattle.window.specs.Wording.Painter.{Sheet, begun, put, with_row, row_below, rows_in, FromOne}
 use Rattle.window.proofs.Laws.Rows.{Ends, Named, nothing, run, named}
 use Rattle.window.proofs.Laws.Paint.{moved}
 
@@ -65,6 +65,11 @@ rows-answered : (test : ℕ → Bool) (n : ℕ) (rows : Option Rows) → NamedRo
     → Named test n (rows_in rows).first (rows_in rows).last
 rows-answered test n None none = nothing none
 rows-answered test n (Some rows) ends = run {first = rows.first} {last = rows.last} ends
+
+-- They are numbered from 1 on.
+named-from-one : (test : ℕ → Bool) (n : ℕ) (rows : Option Rows) → NamedRows test n rows → FromOne rows
+named-from-one test n None none = tt
+named-from-one test n (Some rows) ends = ends.low
 
 -- The rows that are so named are determined.
 named-once : (test : ℕ → Bool) (H a b c d : ℕ) → Named test H a b → Named test H c d → (a ≡ c) × (b ≡ d)
@@ -163,10 +168,14 @@ module _ (f : Frame) (old new : List ℕ) where
     pub reached-all : (p : Sheet) → Reached f old new f.h 0 p
         → (p.screen ≡ new)
         × (rows_in p.pen.named ≡ record { first = first_row f.h f.w old new; last = last_row f.h f.w old new })
+        × FromOne p.pen.named
     reached-all p so_far =
         let end : f.h * f.w + 0 ≡ f.h * f.w = omega arith in
         let all = take_all (f.h * f.w) new (omega arith) in
         let none = drop_of_length-le old {i = f.h * f.w} (omega arith) in
         let answered = rows-answered (changed f.w old new) f.h p.pen.named so_far.rows in
-        let rows = named-once (changed f.w old new) f.h _ _ _ _ answered (named f.h f.w old new) in
-        (so_far.cells ∙ rw (end, all, none) (append-nil new), λ i. record { first = rows.0 i; last = rows.1 i })
+        let rows = named-once (changed f.w old new) f.h _ _ _ _ answered (named f.h f.w old new) in (
+          so_far.cells ∙ rw (end, all, none) (append-nil new),
+          λ i. record { first = rows.0 i; last = rows.1 i },
+          named-from-one (changed f.w old new) f.h p.pen.named so_far.rows,
+        )

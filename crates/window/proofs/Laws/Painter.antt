@@ -19,7 +19,7 @@ use Rattle.window.specs.declared.Pen.{Pen}
 use Rattle.window.specs.Rules.Window.{window}
 use Rattle.window.specs.Rules.Rows.{first_row, last_row}
 use Rattle.window.specs.Wording.Painter.{Sheet, begun, above, over, across, next_cell, put, along, letter, line_below, row_below}
-use Rattle.window.specs.Wording.Painter.{line_end, paint, finish_paint, rows_in}
+use Rattle.window.specs.Wording.Painter.{line_end, paint, finish_paint, rows_in, FromOne}
 use Rattle.window.proofs.Laws.Window.{length-window}
 use Rattle.window.proofs.Laws.Paint.{byte, paint-over, InRow, letter-fits, blanks, blanks-fit, Lettered, lettered, Ended, ended}
 use Rattle.window.proofs.Laws.Paint.{letter-below, letter-higher, letter-before, letter-behind, letter-inside}
@@ -132,7 +132,9 @@ end-pen f p _ more (end-inside h) = (refl, refl)
 abbrev Done : Frame → Doc → List ℕ → Sheet → Type 0
 Done f d old p =
     let new = window f d in
-    (p.screen ≡ new) × (rows_in p.pen.named ≡ record { first = first_row f.h f.w old new; last = last_row f.h f.w old new })
+    (p.screen ≡ new)
+    × (rows_in p.pen.named ≡ record { first = first_row f.h f.w old new; last = last_row f.h f.w old new })
+    × FromOne p.pen.named
 
 -- Of the text t ++ u, t is painted: the pen is at its end.
 record Midway (f : Frame) (d : Doc) (old t u : List ℕ) (p : Sheet) : Type 0 where
@@ -227,11 +229,12 @@ module _ (f : Frame) (d : Doc) (old : List ℕ) (size : length old ≡ f.h * f.w
       (λ more. text-painted u (t ++ (b ∷ [])) (byte f b p) (byte-on b t u p more m))
       (decided (over f p.pen))
 
--- Painting a text on an old screen gives the window and the named rows.
+-- Painting a text on an old screen gives the window and the named rows, which are numbered from 1 on.
 pub painted : (f : Frame) (d : Doc) (old : List ℕ) → length old ≡ f.h * f.w
     → let p = finish_paint f (paint f (content d) (begun old)) in
     (p.screen ≡ window f d)
     × (rows_in p.pen.named ≡ record { first = first_row f.h f.w old (window f d); last = last_row f.h f.w old (window f d) })
+    × FromOne p.pen.named
 unfolding newlines since_after
 painted f d old size =
     let none : 0 ≡ 0 - f.r = omega arith in

@@ -94,4 +94,4 @@ module _ {f : Frame} {n : Lengths} {text side screen : List ℕ} {p : Sheet} (al
   pub refreshed : {q : Sheet} → q ≡ finish_paint f p → Refreshed f (virtual_held n text side) screen q.pen.named q.screen
   refreshed e =
       let done = painted f (virtual_held n text side) screen all.canvas.long in
-      rw (e, all.whole) (record { screen = done.0; rows = done.1 })
+      rw (e, all.whole) (record { screen = done.0; rows = done.1; from_one = done.2 })

@@ -1,23 +1,33 @@
 -- The numbers of the host's boundary: what goes over and back is the same, and which numbers name which key.
-use Rattle.std.proofs.Common.{Option, Some, None}
+use Rattle.std.proofs.Common.{Option, Some, None, Result, Ok, Err}
+use Rattle.std.specs.Prelude.{IfOk}
 use mathlib.Core.Path.{◌≡◌, refl, sym, ap, ◌∙◌}
 use mathlib.Core.Logic.{◌↔◌, ⊎_elim}
-use mathlib.Core.Bool.{Bool, true, false, ◌&&◌, false≢true}
+use mathlib.Core.Bool.{Bool, true, false, cond, ◌&&◌, false≢true}
 use Prim.Native.Nat.{ℕ, zero, suc, ◌≤◌, ◌<◌}
 use native.Mathlib.Omega.{arith}
 use lib.Dec.{eqb, leb}
 use borrow.Author.Tests.{leb-true, lt-leb, eqb-true, eq-eqb, ne_eqb}
 use Rattle.gap.proofs.Laws.Tests.{decided, clash, and_left, and_right, and_both, cond-true, cond-false}
 use Rattle.gap.specs.Rules.Numbers.{bit}
+use Rattle.editor.specs.Rules.Refusals.{SIZE, LONG, TEXT, SESSION, KEY, FULL, ROOM}
+use Rattle.editor.specs.declared.refusals.Refusal.{Refusal}
+use Rattle.editor.specs.declared.refusals.Refusal.TheVariants as refusals
 use Rattle.window.specs.Words.{Mode, Main, Quoted, Session, Direction, Left, Right, Action, Move, Delete}
 use Rattle.window.specs.Words.{Place, Character, Word, LineBeginning, LineEnding, Document}
 use Rattle.window.specs.Words.{Key, Insert, Function, Recall, Quote, Find, Replace, Mark, Cut, Paste, Newline, Tab}
 use Rattle.window.specs.declared.host.Record.{Record}
 use Rattle.window.specs.declared.host.Said.{Said}
+use Rattle.window.specs.declared.Rows.{Rows}
+use Rattle.window.specs.declared.Accepted.{Accepted}
+use Rattle.window.specs.declared.Unopened.{Unopened}
+use Rattle.window.specs.declared.Unopened.TheVariants as openings
 use Rattle.window.specs.Rules.Core.{Answer}
 use Rattle.window.specs.Rules.Host.{mode_of, mode_number, no_mark, mark_from, mark_number, session_from, record_from, said_of, answer_from, none}
 use Rattle.window.specs.Rules.Host.{action_from, direction_from, place_from, function_from, key_from, KeyNumbers, key_of, names, looked_at}
 use Rattle.window.specs.Rules.Host.{action_number, direction_number, place_number, numbers, numbers_of_key, of_byte}
+use Rattle.window.specs.Wording.Painter.{rows_in, FromOne}
+use Rattle.window.specs.Wording.Calls.{accepted_reply, open_reply, key_reply}
 
 -- ---- The record
 
@@ -94,6 +104,62 @@ said-over said = (
     bit-over zero low = refl
     bit-over (suc zero) low = refl
     bit-over (suc (suc n)) low = absurd (omega arith)
+
+-- The rows named, what an accepted call answers, and the outcome of an opening and of a key, as they are read from an answer's numbers.
+abbrev pub rows_from : ℕ → ℕ → Option Rows
+rows_from first last = cond (eqb first 0) None (Some (record { first = first; last = last }))
+
+abbrev pub accepted_from : Answer → Session → Accepted
+accepted_from a s = record { report = a.report; named = rows_from a.first a.last; row = a.row; column = a.column; session = s }
+
+abbrev pub unopened_from : ℕ → ℕ → Unopened
+unopened_from code place =
+    cond (eqb code SIZE) openings.Size
+    (cond (eqb code LONG) openings.Long (cond (eqb code TEXT) (openings.Text place) (openings.Line place)))
+
+abbrev pub refusal_from : ℕ → Refusal
+refusal_from code =
+    cond (eqb code SIZE) refusals.Size
+    (cond (eqb code LONG) refusals.Long
+    (cond (eqb code TEXT) refusals.Text
+    (cond (eqb code SESSION) refusals.Session
+    (cond (eqb code KEY) refusals.Key
+    (cond (eqb code FULL) refusals.Full (cond (eqb code ROOM) refusals.Room refusals.Line))))))
+
+abbrev pub opened_from : Answer → Session → Result Accepted Unopened
+opened_from a s = cond (eqb a.code 0) (Ok (accepted_from a s)) (Err (unopened_from a.code a.place))
+
+abbrev pub pressed_from : Answer → Session → Result Accepted Refusal
+pressed_from a s = cond (eqb a.code 0) (Ok (accepted_from a s)) (Err (refusal_from a.code))
+
+-- Rows come back where those that are named are numbered from 1 on.
+pub rows-over : (named : Option Rows) → FromOne named → rows_from (rows_in named).first (rows_in named).last ≡ named
+rows-over None _ = refl
+rows-over (Some rows) low = cond-false _ _ (ne_eqb rows.first 0 (λ zero. omega (arith, low, zero)))
+
+-- So what the code answers comes back: an accepted call with its record, and the outcome of an opening and of a key.
+pub accepted-over : (a : Accepted) → FromOne a.named → accepted_from (answer_from (said_of (accepted_reply a).answer)) a.session ≡ a
+accepted-over a low = rw (bell-over a.report.bell, rows-over a.named low)
+
+pub open-over : (r : Result Accepted Unopened) → IfOk r (λ a. FromOne a.named)
+    → opened_from (answer_from (said_of (open_reply r).answer)) (open_reply r).session ≡ r
+open-over (Ok a) low = ap Ok (accepted-over a low)
+open-over (Err openings.Size) _ = refl
+open-over (Err openings.Long) _ = refl
+open-over (Err (openings.Text place)) _ = refl
+open-over (Err (openings.Line place)) _ = refl
+
+pub press-over : (s : Session) (r : Result Accepted Refusal) → IfOk r (λ a. FromOne a.named)
+    → pressed_from (answer_from (said_of (key_reply s r).answer)) (key_reply s r).session ≡ r
+press-over s (Ok a) low = ap Ok (accepted-over a low)
+press-over s (Err refusals.Size) _ = refl
+press-over s (Err refusals.Long) _ = refl
+press-over s (Err refusals.Text) _ = refl
+press-over s (Err refusals.Session) _ = refl
+press-over s (Err refusals.Key) _ = refl
+press-over s (Err refusals.Full) _ = refl
+press-over s (Err refusals.Room) _ = refl
+press-over s (Err refusals.Line) _ = refl
 
 -- ---- Keys
 

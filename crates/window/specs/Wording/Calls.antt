@@ -16,7 +16,7 @@ use Rattle.window.specs.declared.Rows.{Rows}
 use Rattle.window.specs.declared.Accepted.{Accepted}
 use Rattle.window.specs.declared.Unopened.{Unopened}
 use Rattle.window.specs.Wording.Unopened.{refusal_in, place_in}
-use Rattle.window.specs.Wording.Painter.{rows_in}
+use Rattle.window.specs.Wording.Painter.{rows_in, FromOne}
 use Rattle.window.specs.Rules.Window.{virtual_in, row_of, column_of, window, policy_row, policy_column}
 use Rattle.window.specs.Rules.Rows.{first_row, last_row}
 use Rattle.window.specs.Rules.Core.{Lent, Reply, Called, tabled, session_in, refusal, zero_record, shown, opened_text, opened}
@@ -82,6 +82,7 @@ IsSpot s n text side = (Q : ℕ) → TextsIn Q n text side → s ≡ spot_in (vi
 pub record Refreshed (f : Frame) (d : Doc) (old : List ℕ) (named : Option Rows) (new : List ℕ) : Type 0 where
   pub screen : new ≡ window f d
   pub rows : rows_in named ≡ record { first = first_row f.h f.w old (window f d); last = last_row f.h f.w old (window f d) }
+  pub from_one : FromOne named
 
 -- ---- Calls
 

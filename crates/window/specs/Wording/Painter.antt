@@ -81,6 +81,11 @@ abbrev pub rows_in : Option Rows → Rows
 rows_in None = record { first = 0; last = 0 }
 rows_in (Some rows) = rows
 
+-- Rows that are named are numbered from 1 on, so that 0 and 0 are the numbers of no row named alone.
+abbrev pub FromOne : Option Rows → Type 0
+FromOne None = Unit {0}
+FromOne (Some rows) = 1 ≤ rows.first
+
 -- The rows named so far, and a row below them.
 abbrev pub with_row : Option Rows → ℕ → Rows
 with_row None row = record { first = row; last = row }

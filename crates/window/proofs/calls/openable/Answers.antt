@@ -8,37 +8,37 @@ use mathlib.Core.Path.{ap}
 use mathlib.Core.Bool.{not}
 use Rattle.window.proofs.calls.openable.Goals as goal
 
-pub returns-then-not-tabled_stores : goal.returns-then-not-tabled_stores
-returns-then-not-tabled_stores c =
-    size-refused _ _ _ (lent_as c.args.lent.now c.args.screen.now) c.tabled_stores.ensures
-    (ap not c.if-not-tabled_stores.true) refl
+pub returns-then-not-lent_tabled : goal.returns-then-not-lent_tabled
+returns-then-not-lent_tabled c =
+    size-refused _ _ _ (lent_as c.args.lent.now c.args.screen.now) c.lent_tabled.ensures
+    (ap not c.if-not-lent_tabled.true) refl
 
 pub returns-then-text-n : goal.returns-then-text-n
 returns-then-text-n c =
-    long-refused _ _ _ (lent_as c.args.lent.now c.args.screen.now) c.tabled_stores.ensures
-    (ap not c.if-not-tabled_stores.false) c.if-text-n.true
+    long-refused _ _ _ (lent_as c.args.lent.now c.args.screen.now) c.lent_tabled.ensures
+    (ap not c.if-not-lent_tabled.false) c.if-text-n.true
     refl
 
 pub returns-in-Some : goal.returns-in-Some
 returns-in-Some c =
-    text-refused _ _ _ (lent_as c.args.lent.now c.args.screen.now) c.tabled_stores.ensures
-    (ap not c.if-not-tabled_stores.false) c.if-text-n.false
+    text-refused _ _ _ (lent_as c.args.lent.now c.args.screen.now) c.lent_tabled.ensures
+    (ap not c.if-not-lent_tabled.false) c.if-text-n.false
     c.bad_byte.ensures _ c.in-Some.is refl
 
 pub returns-in-Some-long_line : goal.returns-in-Some-long_line
 unfolding longest_line
 returns-in-Some-long_line c =
-    line_refused _ _ _ (lent_as c.args.lent.now c.args.screen.now) c.tabled_stores.ensures
-    (ap not c.if-not-tabled_stores.false) c.if-text-n.false
+    line_refused _ _ _ (lent_as c.args.lent.now c.args.screen.now) c.lent_tabled.ensures
+    (ap not c.if-not-lent_tabled.false) c.if-text-n.false
     c.bad_byte.ensures c.in_default.is c.long_line.ensures _ c.in-Some-long_line.is
     refl
 
 pub returns : goal.returns
 unfolding longest_line
 returns c = (
-  stores-fit _ _ (lent_as c.args.lent.now c.args.screen.now) c.tabled_stores.ensures (ap not c.if-not-tabled_stores.false),
+  stores-fit _ _ (lent_as c.args.lent.now c.args.screen.now) c.lent_tabled.ensures (ap not c.if-not-lent_tabled.false),
   c.if-text-n.false,
-  text-accepted _ _ _ (lent_as c.args.lent.now c.args.screen.now) c.tabled_stores.ensures
-      (ap not c.if-not-tabled_stores.false) c.if-text-n.false
+  text-accepted _ _ _ (lent_as c.args.lent.now c.args.screen.now) c.lent_tabled.ensures
+      (ap not c.if-not-lent_tabled.false) c.if-text-n.false
       c.bad_byte.ensures c.in_default.is c.long_line.ensures c.in_default-long_line.is,
 )

@@ -32,8 +32,8 @@ overflow_sub-result-2 c =
     offset-column _ _ _ _ c.args.screen.now c.requires.texts c.requires.w_value.0 c.requires.w_value.1 _ (c.cursor-spot.ensures _ c.requires.texts) _
     c.follow-g.ensures
 
-pub returns : goal.returns
-returns c =
+pub returns-clause-shows : goal.returns-clause-shows
+returns-clause-shows c =
     λ recall held sound fit.
     shows-so _ _ _ _ _ c.requires.texts c.requires.w_value.0 c.requires.w_value.1 _ (c.cursor-spot.ensures _ c.requires.texts) _ c.follow-g.ensures _
     _ _ c.refresh-named.ensures recall held sound
